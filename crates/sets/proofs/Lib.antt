@@ -1,0 +1,12 @@
+pub mod Facts
+pub mod Glue
+pub mod Held
+pub mod Laws
+pub mod ListLaws
+pub mod LowParts
+pub mod Members
+pub mod OneWord
+pub mod Order
+pub mod Parts
+pub mod Tables
+pub mod Tests

@@ -1,0 +1,527 @@
+-- The tests over lists against membership; lists in an order. Assumes nothing.
+use mathlib.Core.Path.{_≡_, refl, sym, ap, ap₂, _∙_, subst}
+use mathlib.Core.Logic.{_⊎_, inl, inr}
+use mathlib.Core.Bool.{Bool, true, false, not, _&&_, _||_, and-true, and-assoc}
+use mathlib.Core.List.{List, [], _∷_, _++_, map, flatten, List·Memᴰ, List·Memᴰ·head, List·Memᴰ·tail, List·Memᴰ·not-nil, List·Memᴰ·cases-cons, List·Memᴰ·append-cases, Memᴰ·cast, Memᴰ·append-left, Memᴰ·append-right, Memᴰ·of-map}
+use Prim.Native.Nat.{ℕ, zero, suc, _+_, _≤_, _<_}
+use native.Mathlib.Omega.{arith}
+use lib.Dec.{ltb, eqb}
+use lib.ListN.{length}
+use borrow.Author.Tests.{ltb-true, ltb-false, lt-ltb, le-ltb, eq-eqb, eqb-true}
+use Rattle.sets.specs.Lists.{_∈_, any, all, keep, eachTwo, placed, sorted, from, below}
+use Rattle.sets.proofs.Tests.{never, split, iff, and-intro, and-left, and-right, or-left, or-right, or-cases, not-true, lt-or-le}
+
+-- l has each member of m
+abbrev pub Holds : {A : Type 0} → List A → List A → Type 0
+Holds l m = (x : _) → x ∈ m → x ∈ l
+
+module _ {A : Type 0} where
+  pub any-at : (f : A → Bool) {x : A} (l : List A) → x ∈ l → f x ≡ true → any f l ≡ true
+  unfolding any
+  any-at f l (List·Memᴰ·head {x = y} {xs = xs} e) t = or-left (f y) (any f xs) (ap f (sym e) ∙ t)
+  any-at f l (List·Memᴰ·tail {x = y} {xs = xs} m) t = or-right (f y) (any f xs) (any-at f xs m t)
+
+  pub any-of : (f : A → Bool) (l : List A) → any f l ≡ true → (x : A) × x ∈ l × (f x ≡ true)
+  unfolding any
+  any-of f [] t = never false t refl
+  any-of f (y ∷ l) t = go (or-cases (f y) (any f l) t) (any-of f l)
+    where
+      go : (f y ≡ true) ⊎ (any f l ≡ true) → (any f l ≡ true → (x : A) × x ∈ l × (f x ≡ true)) → (x : A) × x ∈ (y ∷ l) × (f x ≡ true)
+      go (inl s) rest = (y, List·Memᴰ·head refl, s)
+      go (inr s) rest = let r = rest s in (r .0, List·Memᴰ·tail (r .1), r .2)
+
+  pub any-none : (f : A → Bool) (l : List A) → any f l ≡ false → {x : A} → x ∈ l → f x ≡ false
+  any-none f l e {x} m = go (split (f x))
+    where
+      go : (f x ≡ true) ⊎ (f x ≡ false) → f x ≡ false
+      go (inl t) = never (any f l) (any-at f l m t) e
+      go (inr t) = t
+
+  pub all-at : (f : A → Bool) (l : List A) → ((x : A) → x ∈ l → f x ≡ true) → all f l ≡ true
+  unfolding all
+  all-at f [] h = refl
+  all-at f (x ∷ l) h = and-intro (f x) (all f l) (h x (List·Memᴰ·head refl)) (all-at f l (λ y m. h y (List·Memᴰ·tail m)))
+
+  pub all-of : (f : A → Bool) {x : A} (l : List A) → all f l ≡ true → x ∈ l → f x ≡ true
+  unfolding all
+  all-of f l t (List·Memᴰ·head {x = y} {xs = xs} e) = ap f e ∙ and-left (f y) (all f xs) t
+  all-of f l t (List·Memᴰ·tail {x = y} {xs = xs} m) = all-of f xs (and-right (f y) (all f xs) t) m
+
+  -- ---- what is kept
+
+  pub keep-yes : (f : A → Bool) (x : A) (l : List A) → f x ≡ true → keep f (x ∷ l) ≡ x ∷ keep f l
+  unfolding keep
+  keep-yes f x l e = rw (keep, e)
+
+  pub keep-no : (f : A → Bool) (x : A) (l : List A) → f x ≡ false → keep f (x ∷ l) ≡ keep f l
+  unfolding keep
+  keep-no f x l e = rw (keep, e)
+
+  pub keep-at : (f : A → Bool) {x : A} (l : List A) → x ∈ l → f x ≡ true → x ∈ keep f l
+  keep-at f {x} l (List·Memᴰ·head {x = y} {xs = xs} e) t = rw (keep-yes f y xs (ap f (sym e) ∙ t)) (List·Memᴰ·head e)
+  keep-at f {x} l (List·Memᴰ·tail {x = y} {xs = xs} m) t = go (split (f y)) (keep-at f xs m t)
+    where
+      go : (f y ≡ true) ⊎ (f y ≡ false) → x ∈ keep f xs → x ∈ keep f (y ∷ xs)
+      go (inl e) r = rw (keep-yes f y xs e) (List·Memᴰ·tail r)
+      go (inr e) r = rw (keep-no f y xs e) r
+
+  pub keep-of : (f : A → Bool) {x : A} (l : List A) → x ∈ keep f l → x ∈ l × (f x ≡ true)
+  unfolding keep
+  keep-of f [] m = absurd (List·Memᴰ·not-nil m)
+  keep-of f {x} (y ∷ l) m = go (split (f y)) (keep-of f l)
+    where
+      head : f y ≡ true → (x ≡ y) ⊎ x ∈ keep f l → (x ∈ keep f l → x ∈ l × (f x ≡ true)) → x ∈ (y ∷ l) × (f x ≡ true)
+      head e (inl s) rest = (List·Memᴰ·head s, ap f s ∙ e)
+      head e (inr n) rest = let r = rest n in (List·Memᴰ·tail (r .0), r .1)
+
+      go : (f y ≡ true) ⊎ (f y ≡ false) → (x ∈ keep f l → x ∈ l × (f x ≡ true)) → x ∈ (y ∷ l) × (f x ≡ true)
+      go (inl e) rest = head e (List·Memᴰ·cases-cons (subst (λ (z : List A). x ∈ z) (keep-yes f y l e) m)) rest
+      go (inr e) rest = let r = rest (subst (λ (z : List A). x ∈ z) (keep-no f y l e) m) in (List·Memᴰ·tail (r .0), r .1)
+
+  -- the same test, the same list
+  pub keep-same : (f g : A → Bool) (l : List A) → ((x : A) → x ∈ l → f x ≡ g x) → keep f l ≡ keep g l
+  unfolding keep
+  keep-same f g [] h = refl
+  keep-same f g (x ∷ l) h = go (split (g x)) (keep-same f g l (λ y m. h y (List·Memᴰ·tail m)))
+    where
+      go : (g x ≡ true) ⊎ (g x ≡ false) → keep f l ≡ keep g l → keep f (x ∷ l) ≡ keep g (x ∷ l)
+      go (inl e) r = keep-yes f x l (h x (List·Memᴰ·head refl) ∙ e) ∙ ap (λ (z : List A). x ∷ z) r ∙ sym (keep-yes g x l e)
+      go (inr e) r = keep-no f x l (h x (List·Memᴰ·head refl) ∙ e) ∙ r ∙ sym (keep-no g x l e)
+
+  pub keep-all : (f : A → Bool) (l : List A) → ((x : A) → x ∈ l → f x ≡ true) → keep f l ≡ l
+  unfolding keep
+  keep-all f [] h = refl
+  keep-all f (x ∷ l) h =
+      keep-yes f x l (h x (List·Memᴰ·head refl)) ∙ ap (λ (z : List A). x ∷ z) (keep-all f l (λ y m. h y (List·Memᴰ·tail m)))
+
+  -- a test that passes wherever another does keeps no fewer
+  pub keep-le : (f g : A → Bool) (l : List A) → ((x : A) → x ∈ l → f x ≡ true → g x ≡ true) → length (keep f l) ≤ length (keep g l)
+  unfolding keep
+  keep-le f g [] h = omega arith
+  keep-le f g (x ∷ l) h = go (split (f x)) (split (g x)) (keep-le f g l (λ y m. h y (List·Memᴰ·tail m)))
+    where
+      go : (f x ≡ true) ⊎ (f x ≡ false) → (g x ≡ true) ⊎ (g x ≡ false) → length (keep f l) ≤ length (keep g l) → length (keep f (x ∷ l)) ≤ length (keep g (x ∷ l))
+      go (inl e) d r = let i : g x ≡ true = h x (List·Memᴰ·head refl) e in omega (arith, ap length (keep-yes f x l e), ap length (keep-yes g x l i))
+      go (inr e) (inl d) r = omega (arith, ap length (keep-no f x l e), ap length (keep-yes g x l d))
+      go (inr e) (inr d) r = omega (arith, ap length (keep-no f x l e), ap length (keep-no g x l d))
+
+  -- a test that never passes keeps none
+  pub keep-none : (f : A → Bool) (l : List A) → ((x : A) → x ∈ l → f x ≡ false) → length (keep f l) ≡ 0
+  unfolding keep
+  keep-none f [] h = refl
+  keep-none f (x ∷ l) h = ap length (keep-no f x l (h x (List·Memᴰ·head refl))) ∙ keep-none f l (λ y m. h y (List·Memᴰ·tail m))
+
+  pub flat-at : {x : A} {c : List A} (C : List (List A)) → c ∈ C → x ∈ c → x ∈ flatten C
+  unfolding flatten
+  flat-at {x} C (List·Memᴰ·head {x = d} {xs = ds} e) m = Memᴰ·append-left (flatten ds) (subst (λ (z : List A). x ∈ z) e m)
+  flat-at C (List·Memᴰ·tail {x = d} {xs = ds} n) m = Memᴰ·append-right d (flat-at ds n m)
+
+  pub flat-of : {x : A} (C : List (List A)) → x ∈ flatten C → (c : List A) × c ∈ C × x ∈ c
+  unfolding flatten
+  flat-of [] m = absurd (List·Memᴰ·not-nil m)
+  flat-of {x} (d ∷ C) m = go (List·Memᴰ·append-cases d m) (flat-of C)
+    where
+      go : x ∈ d ⊎ x ∈ flatten C → (x ∈ flatten C → (c : List A) × c ∈ C × x ∈ c) → (c : List A) × c ∈ (d ∷ C) × x ∈ c
+      go (inl n) rest = (d, List·Memᴰ·head refl, n)
+      go (inr n) rest = let r = rest n in (r .0, List·Memᴰ·tail (r .1), r .2)
+
+  -- ---- tests at the end of a list, and at each two
+
+  pub no-member : (l : List A) → ((x : A) → x ∈ l → ⊥) → l ≡ []
+  no-member [] h = refl
+  no-member (x ∷ l) h = absurd (h x (List·Memᴰ·head refl))
+
+  -- each fails exactly when none passes
+  pub all-not : (f : A → Bool) (l : List A) → all (λ x. not (f x)) l ≡ not (any f l)
+  unfolding all any
+  all-not f [] = refl
+  all-not f (x ∷ l) = go (f x) (all-not f l)
+    where
+      go : (b : Bool) → all (λ y. not (f y)) l ≡ not (any f l) → not b && all (λ y. not (f y)) l ≡ not (b || any f l)
+      go true e = refl
+      go false e = e
+
+  -- one more at the end
+  pub all-more : (f : A → Bool) (l : List A) (x : A) → all f (l ++ (x ∷ [])) ≡ all f l && f x
+  unfolding all
+  all-more f [] x = and-true (f x)
+  all-more f (y ∷ l) x = ap (λ (b : Bool). f y && b) (all-more f l x) ∙ sym (and-assoc (f y) (all f l) (f x))
+
+  pub eachTwo-more : (f : A → A → Bool) (l : List A) (x : A) → eachTwo f (l ++ (x ∷ [])) ≡ eachTwo f l && all (λ y. f y x) l
+  unfolding eachTwo all
+  eachTwo-more f [] x = refl
+  eachTwo-more f (y ∷ l) x = ap₂ _&&_ (all-more (f y) l x) (eachTwo-more f l x) ∙ swap (all (f y) l) (f y x) (eachTwo f l) (all (λ z. f z x) l)
+    where
+      swap : (a b c d : Bool) → (a && b) && (c && d) ≡ (a && c) && (b && d)
+      swap true true c d = refl
+      swap true false true d = refl
+      swap true false false d = refl
+      swap false b c d = refl
+
+  -- an element and a later one
+  pub eachTwo-later : (f : A → A → Bool) (K M : List A) (x y : A) → eachTwo f (K ++ (x ∷ M)) ≡ true → y ∈ M → f x y ≡ true
+  unfolding eachTwo
+  eachTwo-later f [] M x y t m = all-of (f x) M (and-left (all (f x) M) (eachTwo f M) t) m
+  eachTwo-later f (z ∷ K) M x y t m = eachTwo-later f K M x y (and-right (all (f z) (K ++ (x ∷ M))) (eachTwo f (K ++ (x ∷ M))) t) m
+
+  -- a list of two or more has two at which the test passes
+  pub eachTwo-some : (f : A → A → Bool) (l : List A) → 2 ≤ length l → eachTwo f l ≡ true → (x : A) × (y : A) × (f x y ≡ true)
+  unfolding eachTwo all
+  eachTwo-some f [] h t = absurd (omega arith)
+  eachTwo-some f (x ∷ []) h t = absurd (omega arith)
+  eachTwo-some f (x ∷ y ∷ l) h t =
+      (x, y, and-left (f x y) (all (f x) l) (and-left (all (f x) (y ∷ l)) (eachTwo f (y ∷ l)) t))
+
+  -- elements that a symmetric test ties are one, where the test fails at each two
+  pub eachTwo-once : (R : A → A → Bool) → ((x y : A) → R x y ≡ true → R y x ≡ true) → (L : List A) → eachTwo (λ x y. not (R x y)) L ≡ true
+      → (x y : A) → x ∈ L → y ∈ L → R x y ≡ true → x ≡ y
+  unfolding eachTwo
+  eachTwo-once R turn [] t x y m n h = absurd (List·Memᴰ·not-nil m)
+  eachTwo-once R turn (z ∷ L) t x y m n h =
+      go (List·Memᴰ·cases-cons m) (List·Memᴰ·cases-cons n) (eachTwo-once R turn L (and-right (all (λ v. not (R z v)) L) (eachTwo (λ u v. not (R u v)) L) t) x y)
+    where
+      apart : (v : A) → v ∈ L → R z v ≡ false
+      apart v i = not-true (R z v) (all-of (λ u. not (R z u)) L (and-left (all (λ u. not (R z u)) L) (eachTwo (λ u w. not (R u w)) L) t) i)
+
+      go : (x ≡ z) ⊎ x ∈ L → (y ≡ z) ⊎ y ∈ L → (x ∈ L → y ∈ L → R x y ≡ true → x ≡ y) → x ≡ y
+      go (inl d) (inl e) rest = d ∙ sym e
+      go (inl d) (inr j) rest = never (R z y) (ap (λ (v : A). R v y) (sym d) ∙ h) (apart y j)
+      go (inr i) (inl e) rest = never (R z x) (turn x z (ap (R x) (sym e) ∙ h)) (apart x i)
+      go (inr i) (inr j) rest = rest i j h
+
+-- ---- a strict total order, and lists that rise in it
+
+pub record Order {A : Type 0} (first : A → A → Bool) : Type 0 where
+  pub irrefl : (x : A) → first x x ≡ false
+  pub trans : (x y z : A) → first x y ≡ true → first y z ≡ true → first x z ≡ true
+  pub total : (x y : A) → first x y ≡ false → first y x ≡ false → x ≡ y
+
+module _ {A : Type 0} (first : A → A → Bool) where
+  unfoldable pub Rising : List A → Type 0
+  Rising [] = Unit {0}
+  Rising (x ∷ l) = ((y : A) → y ∈ l → first x y ≡ true) × Rising l
+
+  pub keep-rising : (f : A → Bool) (l : List A) → Rising l → Rising (keep f l)
+  unfolding keep Rising
+  keep-rising f [] r = tt
+  keep-rising f (x ∷ l) r = go (split (f x)) (keep-rising f l (r .1))
+    where
+      go : (f x ≡ true) ⊎ (f x ≡ false) → Rising (keep f l) → Rising (keep f (x ∷ l))
+      go (inl e) s = rw (keep-yes f x l e) ((λ y m. r .0 y (keep-of f l m .0)), s)
+      go (inr e) s = rw (keep-no f x l e) s
+
+  module _ (order : Order first) where
+    asym : (x y : A) → first x y ≡ true → first y x ≡ false
+    asym x y e = go (split (first y x))
+      where
+        go : (first y x ≡ true) ⊎ (first y x ≡ false) → first y x ≡ false
+        go (inl h) = never (first x x) (order .trans x y x e h) (order .irrefl x)
+        go (inr h) = h
+
+    -- z is not before y, nor y before x: nor is z before x
+    pub not-before : (x y z : A) → first y x ≡ false → first z y ≡ false → first z x ≡ false
+    not-before x y z e h = go (split (first z x)) (split (first y z))
+      where
+        go : (first z x ≡ true) ⊎ (first z x ≡ false) → (first y z ≡ true) ⊎ (first y z ≡ false) → first z x ≡ false
+        go (inr s) t = s
+        go (inl s) (inl t) = never (first y x) (order .trans y z x t s) e
+        go (inl s) (inr t) = ap (λ (w : A). first w x) (order .total z y h t) ∙ e
+
+    -- two rising lists with the same members are one list
+    pub rising-same : (l m : List A) → Rising l → Rising m → Holds m l → Holds l m → l ≡ m
+    unfolding Rising
+    rising-same [] [] r s f g = refl
+    rising-same [] (y ∷ m) r s f g = absurd (List·Memᴰ·not-nil (g y (List·Memᴰ·head refl)))
+    rising-same (x ∷ l) [] r s f g = absurd (List·Memᴰ·not-nil (f x (List·Memᴰ·head refl)))
+    rising-same (x ∷ l) (y ∷ m) r s f g = ap₂ (λ (a : A) (t : List A). a ∷ t) heads (rising-same l m (r .1) (s .1) fwd bwd)
+      where
+        -- a member of a rising list is not before its head
+        low : (a b : A) (t : List A) → ((z : A) → z ∈ t → first b z ≡ true) → (a ≡ b) ⊎ a ∈ t → first a b ≡ false
+        low a b t h (inl e) = ap (λ (z : A). first z b) e ∙ order .irrefl b
+        low a b t h (inr n) = asym b a (h a n)
+
+        heads : x ≡ y
+        heads =
+            order .total x y (low x y m (s .0) (List·Memᴰ·cases-cons (f x (List·Memᴰ·head refl))))
+            (low y x l (r .0) (List·Memᴰ·cases-cons (g y (List·Memᴰ·head refl))))
+
+        off : (z a b : A) (t : List A) → a ≡ b → first a z ≡ true → (z ≡ b) ⊎ z ∈ t → z ∈ t
+        off z a b t e h (inl q) = never (first a z) h (ap (first a) (q ∙ sym e) ∙ order .irrefl a)
+        off z a b t e h (inr n) = n
+
+        fwd : (z : A) → z ∈ l → z ∈ m
+        fwd z n = off z x y m heads (r .0 z n) (List·Memᴰ·cases-cons (f z (List·Memᴰ·tail n)))
+
+        bwd : (z : A) → z ∈ m → z ∈ l
+        bwd z n = off z y x l (sym heads) (s .0 z n) (List·Memᴰ·cases-cons (g z (List·Memᴰ·tail n)))
+
+    -- the first of a rising list is before, or is, each member
+    pub first-least : (x : A) (l : List A) → Rising (x ∷ l) → (y : A) → y ∈ (x ∷ l) → first y x ≡ false
+    unfolding Rising
+    first-least x l r y m = go (List·Memᴰ·cases-cons m)
+      where
+        go : (y ≡ x) ⊎ y ∈ l → first y x ≡ false
+        go (inl e) = ap (λ (z : A). first z x) e ∙ order .irrefl x
+        go (inr n) = asym x y (r .0 y n)
+
+    -- ---- sorting: the same members, rising
+
+    placed-of : (x : A) (l : List A) {z : A} → z ∈ placed first x l → (z ≡ x) ⊎ z ∈ l
+    unfolding placed
+    placed-of x [] m = List·Memᴰ·cases-cons m
+    placed-of x (y ∷ l) {z} m = go (split (first x y)) (split (first y x)) (placed-of x l)
+      where
+        tail : (z ≡ x) ⊎ z ∈ l → (z ≡ x) ⊎ z ∈ (y ∷ l)
+        tail (inl e) = inl e
+        tail (inr n) = inr (List·Memᴰ·tail n)
+
+        cons : (z ≡ y) ⊎ z ∈ placed first x l → (z ∈ placed first x l → (z ≡ x) ⊎ z ∈ l) → (z ≡ x) ⊎ z ∈ (y ∷ l)
+        cons (inl e) rest = inr (List·Memᴰ·head e)
+        cons (inr n) rest = tail (rest n)
+
+        go : (first x y ≡ true) ⊎ (first x y ≡ false) → (first y x ≡ true) ⊎ (first y x ≡ false)
+            → (z ∈ placed first x l → (z ≡ x) ⊎ z ∈ l) → (z ≡ x) ⊎ z ∈ (y ∷ l)
+        go (inl e) h rest = List·Memᴰ·cases-cons (rw (placed, e) at m)
+        go (inr e) (inl h) rest = cons (List·Memᴰ·cases-cons (rw (placed, e, h) at m)) rest
+        go (inr e) (inr h) rest = inr (rw (placed, e, h) at m)
+
+    placed-at : (x : A) (l : List A) {z : A} → (z ≡ x) ⊎ z ∈ l → z ∈ placed first x l
+    unfolding placed
+    placed-at x [] {z} (inl e) = List·Memᴰ·head e
+    placed-at x [] {z} (inr n) = absurd (List·Memᴰ·not-nil n)
+    placed-at x (y ∷ l) {z} c = go (split (first x y)) (split (first y x)) (placed-at x l) c
+      where
+        old : ((z ≡ x) ⊎ z ∈ l → z ∈ placed first x l) → (z ≡ y) ⊎ z ∈ l → z ∈ (y ∷ placed first x l)
+        old rest (inl e) = List·Memᴰ·head e
+        old rest (inr n) = List·Memᴰ·tail (rest (inr n))
+
+        go : (first x y ≡ true) ⊎ (first x y ≡ false) → (first y x ≡ true) ⊎ (first y x ≡ false)
+            → ((z ≡ x) ⊎ z ∈ l → z ∈ placed first x l) → (z ≡ x) ⊎ z ∈ (y ∷ l) → z ∈ placed first x (y ∷ l)
+        go (inl e) h rest (inl s) = rw (placed, e) (List·Memᴰ·head s)
+        go (inl e) h rest (inr n) = rw (placed, e) (List·Memᴰ·tail n)
+        go (inr e) (inl h) rest (inl s) = rw (placed, e, h) (List·Memᴰ·tail (rest (inl s)))
+        go (inr e) (inl h) rest (inr n) = rw (placed, e, h) (old rest (List·Memᴰ·cases-cons n))
+        go (inr e) (inr h) rest (inl s) = rw (placed, e, h) (List·Memᴰ·head (s ∙ order .total x y e h))
+        go (inr e) (inr h) rest (inr n) = rw (placed, e, h) n
+
+    placed-rising : (x : A) (l : List A) → Rising l → Rising (placed first x l)
+    unfolding placed Rising
+    placed-rising x [] r = ((λ y m. absurd (List·Memᴰ·not-nil m)), tt)
+    placed-rising x (y ∷ l) r = go (split (first x y)) (split (first y x)) (placed-rising x l (r .1))
+      where
+        over : first x y ≡ true → (z : A) → (z ≡ y) ⊎ z ∈ l → first x z ≡ true
+        over e z (inl s) = ap (first x) s ∙ e
+        over e z (inr n) = order .trans x y z e (r .0 z n)
+
+        under : first y x ≡ true → (z : A) → (z ≡ x) ⊎ z ∈ l → first y z ≡ true
+        under h z (inl s) = ap (first y) s ∙ h
+        under h z (inr n) = r .0 z n
+
+        go : (first x y ≡ true) ⊎ (first x y ≡ false) → (first y x ≡ true) ⊎ (first y x ≡ false) → Rising (placed first x l) → Rising (placed first x (y ∷ l))
+        go (inl e) h s = rw (placed, e) ((λ z m. over e z (List·Memᴰ·cases-cons m)), r)
+        go (inr e) (inl h) s = rw (placed, e, h) ((λ z m. under h z (placed-of x l m)), s)
+        go (inr e) (inr h) s = rw (placed, e, h) r
+
+    pub sorted-of : (l : List A) {z : A} → z ∈ sorted first l → z ∈ l
+    unfolding sorted
+    sorted-of [] m = m
+    sorted-of (x ∷ l) {z} m = go (placed-of x (sorted first l) m) (sorted-of l)
+      where
+        go : (z ≡ x) ⊎ z ∈ sorted first l → (z ∈ sorted first l → z ∈ l) → z ∈ (x ∷ l)
+        go (inl e) rest = List·Memᴰ·head e
+        go (inr n) rest = List·Memᴰ·tail (rest n)
+
+    pub sorted-at : (l : List A) {z : A} → z ∈ l → z ∈ sorted first l
+    unfolding sorted
+    sorted-at l (List·Memᴰ·head {x = x} {xs = xs} e) = placed-at x (sorted first xs) (inl e)
+    sorted-at l (List·Memᴰ·tail {x = x} {xs = xs} m) = placed-at x (sorted first xs) (inr (sorted-at xs m))
+
+    pub sorted-rising : (l : List A) → Rising (sorted first l)
+    unfolding sorted Rising
+    sorted-rising [] = tt
+    sorted-rising (x ∷ l) = placed-rising x (sorted first l) (sorted-rising l)
+
+    -- sorting goes by the members alone
+    pub sorted-same : (l m : List A) → Holds m l → Holds l m → sorted first l ≡ sorted first m
+    sorted-same l m f g =
+        rising-same (sorted first l) (sorted first m) (sorted-rising l) (sorted-rising m) (λ x n. sorted-at m (f x (sorted-of l n)))
+        (λ x n. sorted-at l (g x (sorted-of m n)))
+
+-- ---- no element twice
+
+unfoldable pub Distinct : {A : Type 0} → List A → Type 0
+Distinct [] = Unit {0}
+Distinct (x ∷ l) = (x ∈ l → ⊥) × Distinct l
+
+module _ {A : Type 0} where
+  pub rising-distinct : (first : A → A → Bool) → Order first → (l : List A) → Rising first l → Distinct l
+  unfolding Rising Distinct
+  rising-distinct first order [] r = tt
+  rising-distinct first order (x ∷ l) r = ((λ m. never (first x x) (r .0 x m) (order .irrefl x)), rising-distinct first order l (r .1))
+
+  pub keep-distinct : (f : A → Bool) (l : List A) → Distinct l → Distinct (keep f l)
+  unfolding keep Distinct
+  keep-distinct f [] d = tt
+  keep-distinct f (x ∷ l) d = go (split (f x)) (keep-distinct f l (d .1))
+    where
+      go : (f x ≡ true) ⊎ (f x ≡ false) → Distinct (keep f l) → Distinct (keep f (x ∷ l))
+      go (inl e) r = rw (keep-yes f x l e) ((λ m. d .0 (keep-of f l m .0)), r)
+      go (inr e) r = rw (keep-no f x l e) r
+
+  pub append-distinct : (l m : List A) → Distinct l → Distinct m → ((x : A) → x ∈ l → x ∈ m → ⊥) → Distinct (l ++ m)
+  unfolding Distinct
+  append-distinct [] m d e h = e
+  append-distinct (x ∷ l) m d e h = ((λ i. go (List·Memᴰ·append-cases l i)), append-distinct l m (d .1) e (λ y i. h y (List·Memᴰ·tail i)))
+    where
+      go : x ∈ l ⊎ x ∈ m → ⊥
+      go (inl i) = d .0 i
+      go (inr i) = h x (List·Memᴰ·head refl) i
+
+  -- m without the member at i
+  less : {x : A} (m : List A) → x ∈ m → List A
+  less m (List·Memᴰ·head {xs = xs} e) = xs
+  less m (List·Memᴰ·tail {x = y} {xs = xs} i) = y ∷ less xs i
+
+  less-length : {x : A} (m : List A) (i : x ∈ m) → suc (length (less m i)) ≡ length m
+  unfolding less
+  less-length m (List·Memᴰ·head e) = refl
+  less-length m (List·Memᴰ·tail {xs = xs} i) = ap suc (less-length xs i)
+
+  less-at : {x z : A} (m : List A) (i : x ∈ m) → z ∈ m → (z ≡ x → ⊥) → z ∈ less m i
+  unfolding less
+  less-at {x} {z} m (List·Memᴰ·head {x = y} {xs = xs} e) j n = go (List·Memᴰ·cases-cons j)
+    where
+      go : (z ≡ y) ⊎ z ∈ xs → z ∈ xs
+      go (inl s) = absurd (n (s ∙ sym e))
+      go (inr k) = k
+  less-at {x} {z} m (List·Memᴰ·tail {x = y} {xs = xs} i) j n = go (List·Memᴰ·cases-cons j) (λ k. less-at xs i k n)
+    where
+      go : (z ≡ y) ⊎ z ∈ xs → (z ∈ xs → z ∈ less xs i) → z ∈ (y ∷ less xs i)
+      go (inl s) rest = List·Memᴰ·head s
+      go (inr k) rest = List·Memᴰ·tail (rest k)
+
+  -- a list with no element twice is no longer than one that has its members
+  pub distinct-le : (l m : List A) → Distinct l → Holds m l → length l ≤ length m
+  unfolding Distinct
+  distinct-le [] m d h = omega arith
+  distinct-le (x ∷ l) m d h =
+      let i = h x (List·Memᴰ·head refl) in
+      let r = distinct-le l (less m i) (d .1) (λ z n. less-at m i (h z (List·Memᴰ·tail n)) (λ e. d .0 (Memᴰ·cast (sym e) n))) in
+      omega (arith, less-length m i)
+
+  pub distinct-same : (l m : List A) → Distinct l → Distinct m → Holds m l → Holds l m → length l ≡ length m
+  distinct-same l m d e f g = omega (arith, distinct-le l m d f, distinct-le m l e g)
+
+  -- those that pass f: those that pass g too, and those that do not
+  pub keep-split : (f g : A → Bool) (l : List A) → length (keep f l) ≡ length (keep (λ x. f x && g x) l) + length (keep (λ x. f x && not (g x)) l)
+  unfolding keep
+  keep-split f g [] = refl
+  keep-split f g (x ∷ l) = go (split (f x)) (split (g x)) (keep-split f g l)
+    where
+      go : (f x ≡ true) ⊎ (f x ≡ false) → (g x ≡ true) ⊎ (g x ≡ false)
+          → length (keep f l) ≡ length (keep (λ y. f y && g y) l) + length (keep (λ y. f y && not (g y)) l)
+          → length (keep f (x ∷ l)) ≡ length (keep (λ y. f y && g y) (x ∷ l)) + length (keep (λ y. f y && not (g y)) (x ∷ l))
+      go (inl a) (inl b) r =
+          omega (
+            arith,
+            ap length (keep-yes f x l a),
+            ap length (keep-yes (λ y. f y && g y) x l (ap₂ _&&_ a b)),
+            ap length (keep-no (λ y. f y && not (g y)) x l (ap₂ _&&_ a (ap not b))),
+          )
+      go (inl a) (inr b) r =
+          omega (
+            arith,
+            ap length (keep-yes f x l a),
+            ap length (keep-no (λ y. f y && g y) x l (ap₂ _&&_ a b)),
+            ap length (keep-yes (λ y. f y && not (g y)) x l (ap₂ _&&_ a (ap not b))),
+          )
+      go (inr a) b r =
+          omega (
+            arith,
+            ap length (keep-no f x l a),
+            ap length (keep-no (λ y. f y && g y) x l (ap (λ (t : Bool). t && g x) a)),
+            ap length (keep-no (λ y. f y && not (g y)) x l (ap (λ (t : Bool). t && not (g x)) a)),
+          )
+
+pub map-distinct : {A B : Type 0} (f : A → B) (l : List A) → Distinct l → ((x y : A) → x ∈ l → y ∈ l → f x ≡ f y → x ≡ y) → Distinct (map f l)
+unfolding Distinct
+map-distinct f [] d h = tt
+map-distinct f (x ∷ l) d h = (
+  (λ m.
+      let r = Memᴰ·of-map f l m in
+      d .0 (Memᴰ·cast (h x (r .0) (List·Memᴰ·head refl) (List·Memᴰ·tail (r .1)) (sym (r .2))) (r .1))),
+  map-distinct f l (d .1) (λ y z i j. h y z (List·Memᴰ·tail i) (List·Memᴰ·tail j)),
+)
+
+-- ---- whether a number is in a list
+
+pub elem-at : {a : ℕ} (l : List ℕ) → a ∈ l → any (eqb a) l ≡ true
+elem-at {a} l m = any-at (eqb a) l m (eq-eqb a a refl)
+
+pub elem-of : (a : ℕ) (l : List ℕ) → any (eqb a) l ≡ true → a ∈ l
+elem-of a l t = let r = any-of (eqb a) l t in Memᴰ·cast (eqb-true a (r .0) (r .2)) (r .1)
+
+-- ---- the numbers below n, rising
+
+pub number-order : Order ltb
+number-order = record {
+  irrefl = λ x. le-ltb x x (omega arith);
+  trans = λ x y z e h. lt-ltb x z (omega (arith, ltb-true x y e, ltb-true y z h));
+  total = λ x y e h. omega (arith, ltb-false x y e, ltb-false y x h);
+}
+
+pub from-of : {x : ℕ} (i n : ℕ) → x ∈ from i n → (i ≤ x) × (x < i + n)
+unfolding from
+from-of i zero m = absurd (List·Memᴰ·not-nil m)
+from-of {x} i (suc n) m = go (List·Memᴰ·cases-cons m) (from-of (suc i) n)
+  where
+    go : (x ≡ i) ⊎ x ∈ from (suc i) n → (x ∈ from (suc i) n → (suc i ≤ x) × (x < suc i + n)) → (i ≤ x) × (x < i + suc n)
+    go (inl e) rest = (omega arith, omega arith)
+    go (inr r) rest = let h = rest r in (omega arith, omega arith)
+
+pub from-at : (x i n : ℕ) → i ≤ x → x < i + n → x ∈ from i n
+unfolding from
+from-at x i zero l h = absurd (omega arith)
+from-at x i (suc n) l h = go (lt-or-le i x) (from-at x (suc i) n)
+  where
+    go : (i < x) ⊎ (x ≤ i) → (suc i ≤ x → x < suc i + n → x ∈ from (suc i) n) → x ∈ from i (suc n)
+    go (inl t) rest = List·Memᴰ·tail (rest t (omega arith))
+    go (inr t) rest = let e : x ≡ i = omega arith in List·Memᴰ·head e
+
+pub below-of : {x : ℕ} (n : ℕ) → x ∈ below n → x < n
+unfolding below
+below-of n m = omega (arith, from-of 0 n m)
+
+pub below-at : (x n : ℕ) → x < n → x ∈ below n
+unfolding below
+below-at x n h = from-at x 0 n (omega arith) (omega arith)
+
+from-rising : (i n : ℕ) → Rising ltb (from i n)
+unfolding Rising from
+from-rising i zero = tt
+from-rising i (suc n) = ((λ y m. lt-ltb i y (from-of (suc i) n m .0)), from-rising (suc i) n)
+
+pub below-rising : (n : ℕ) → Rising ltb (below n)
+unfolding below
+below-rising n = from-rising 0 n
+
+-- ---- each two of a rising list of numbers
+
+pub eachTwo-of : (f : ℕ → ℕ → Bool) (l : List ℕ) → Rising ltb l → eachTwo f l ≡ true → (q r : ℕ) → q ∈ l → r ∈ l → q < r → f q r ≡ true
+unfolding eachTwo Rising
+eachTwo-of f [] ri t q r m n h = absurd (List·Memᴰ·not-nil m)
+eachTwo-of f (x ∷ l) ri t q r m n h =
+    go (List·Memᴰ·cases-cons m) (List·Memᴰ·cases-cons n) (eachTwo-of f l (ri .1) (and-right (all (f x) l) (eachTwo f l) t) q r)
+  where
+    go : (q ≡ x) ⊎ q ∈ l → (r ≡ x) ⊎ r ∈ l → (q ∈ l → r ∈ l → q < r → f q r ≡ true) → f q r ≡ true
+    go (inl d) (inl e) rest = absurd (omega arith)
+    go (inl d) (inr e) rest = ap (λ (z : ℕ). f z r) d ∙ all-of (f x) l (and-left (all (f x) l) (eachTwo f l) t) e
+    go (inr d) (inl e) rest = absurd (omega (arith, ltb-true x q (ri .0 q d)))
+    go (inr d) (inr e) rest = rest d e h
+
+pub eachTwo-at : (f : ℕ → ℕ → Bool) (l : List ℕ) → Rising ltb l → ((q r : ℕ) → q ∈ l → r ∈ l → q < r → f q r ≡ true) → eachTwo f l ≡ true
+unfolding eachTwo Rising
+eachTwo-at f [] ri h = refl
+eachTwo-at f (x ∷ l) ri h =
+    and-intro (all (f x) l) (eachTwo f l) (all-at (f x) l (λ y m. h x y (List·Memᴰ·head refl) (List·Memᴰ·tail m) (ltb-true x y (ri .0 y m))))
+    (eachTwo-at f l (ri .1) (λ q r m n. h q r (List·Memᴰ·tail m) (List·Memᴰ·tail n)))

@@ -1,0 +1,165 @@
+-- Set operations by their parts: who is in a meet, a union, a set with one part more or less, and what lies inside what. Any width.
+-- Assumes nothing.
+use mathlib.Core.Bool.{Bool, true, false, not, _&&_, _||_}
+use mathlib.Core.Path.{_≡_, refl, sym, ap, _∙_}
+use mathlib.Core.Logic.{_⊎_, inl, inr}
+use Prim.Native.Nat.{ℕ, zero, suc, _+_, _≤_, _<_, min}
+use native.Mathlib.Omega.{arith}
+use borrow.Author.Tests.{eqb-true, eqb-false, eq-eqb, ne-eqb}
+use lib.Dec.{eqb}
+use Rattle.sets.specs.Sets.{has, one, meet, union, minus, into, out, size, sub, lowest, lows}
+use Rattle.sets.proofs.Tests.{never, split, iff, and-intro, and-left, and-right, or-left, or-right, or-cases, not-true, not-false}
+use Rattle.sets.proofs.Laws.{has-meet, has-union, has-minus, has-into, has-out, ext, none, meet-comm, size-minus, size-empty, size-into, size-out, sub-has, has-sub, sub-size, sub-same, sub-antisym, sub-refl, sub-trans, into-has}
+use Rattle.sets.proofs.Members.{lowest-has}
+use Rattle.sets.proofs.LowParts.{lows-size, lows-sub}
+
+-- two sets with the same parts are one
+pub same-parts : (a b : ℕ) → ((q : ℕ) → has q a ≡ true → has q b ≡ true) → ((q : ℕ) → has q b ≡ true → has q a ≡ true) → a ≡ b
+same-parts a b f g = ext a b (λ q. iff (has q a) (has q b) (f q) (g q))
+
+-- ---- the meet
+
+pub meet-in : (q a b : ℕ) → has q a ≡ true → has q b ≡ true → has q (meet a b) ≡ true
+meet-in q a b x y = has-meet q a b ∙ and-intro (has q a) (has q b) x y
+
+pub meet-l : (q a b : ℕ) → has q (meet a b) ≡ true → has q a ≡ true
+meet-l q a b h = and-left (has q a) (has q b) (sym (has-meet q a b) ∙ h)
+
+pub meet-r : (q a b : ℕ) → has q (meet a b) ≡ true → has q b ≡ true
+meet-r q a b h = and-right (has q a) (has q b) (sym (has-meet q a b) ∙ h)
+
+pub meet-sub-l : (a b : ℕ) → sub (meet a b) a ≡ true
+meet-sub-l a b = has-sub (meet a b) a (λ q. meet-l q a b)
+
+pub meet-sub-r : (a b : ℕ) → sub (meet a b) b ≡ true
+meet-sub-r a b = has-sub (meet a b) b (λ q. meet-r q a b)
+
+pub sub-both : (c a b : ℕ) → sub c a ≡ true → sub c b ≡ true → sub c (meet a b) ≡ true
+sub-both c a b x y = has-sub c (meet a b) (λ q h. meet-in q a b (sub-has q c a x h) (sub-has q c b y h))
+
+-- what two sets share, larger ones share
+pub meet-grows : (a b A B : ℕ) → sub a A ≡ true → sub b B ≡ true → size (meet a b) ≤ size (meet A B)
+meet-grows a b A B x y =
+    sub-size (meet a b) (meet A B)
+    (sub-both (meet a b) A B (sub-trans (meet a b) a A (meet-sub-l a b) x) (sub-trans (meet a b) b B (meet-sub-r a b) y))
+
+-- ---- the union
+
+pub union-l : (q a b : ℕ) → has q a ≡ true → has q (union a b) ≡ true
+union-l q a b h = has-union q a b ∙ or-left (has q a) (has q b) h
+
+pub union-r : (q a b : ℕ) → has q b ≡ true → has q (union a b) ≡ true
+union-r q a b h = has-union q a b ∙ or-right (has q a) (has q b) h
+
+pub union-cases : (q a b : ℕ) → has q (union a b) ≡ true → (has q a ≡ true) ⊎ (has q b ≡ true)
+union-cases q a b h = or-cases (has q a) (has q b) (sym (has-union q a b) ∙ h)
+
+-- ---- one part more, one part less
+
+pub into-keeps : (q r s : ℕ) → has r s ≡ true → has r (into q s) ≡ true
+into-keeps q r s h = has-into r q s ∙ or-left (has r s) (eqb r q) h
+
+pub into-cases : (q r s : ℕ) → has r (into q s) ≡ true → (r ≡ q) ⊎ (has r s ≡ true)
+into-cases q r s h = go (or-cases (has r s) (eqb r q) (sym (has-into r q s) ∙ h))
+  where
+    go : (has r s ≡ true) ⊎ (eqb r q ≡ true) → (r ≡ q) ⊎ (has r s ≡ true)
+    go (inl x) = inr x
+    go (inr x) = inl (eqb-true r q x)
+
+pub out-keeps : (q r s : ℕ) → has r s ≡ true → (r ≡ q → ⊥) → has r (out q s) ≡ true
+out-keeps q r s h n = has-out r q s ∙ and-intro (has r s) (not (eqb r q)) h (ap not (ne-eqb r q n))
+
+pub out-part : (q r s : ℕ) → has r (out q s) ≡ true → has r s ≡ true
+out-part q r s h = and-left (has r s) (not (eqb r q)) (sym (has-out r q s) ∙ h)
+
+pub out-other : (q r s : ℕ) → has r (out q s) ≡ true → r ≡ q → ⊥
+out-other q r s h = eqb-false r q (not-true (eqb r q) (and-right (has r s) (not (eqb r q)) (sym (has-out r q s) ∙ h)))
+
+pub out-lacks : (q s : ℕ) → has q (out q s) ≡ false
+out-lacks q s = go (split (has q (out q s)))
+  where
+    go : (has q (out q s) ≡ true) ⊎ (has q (out q s) ≡ false) → has q (out q s) ≡ false
+    go (inl h) = absurd (out-other q q s h refl)
+    go (inr h) = h
+
+pub into-sub : (q s : ℕ) → sub s (into q s) ≡ true
+into-sub q s = has-sub s (into q s) (λ r. into-keeps q r s)
+
+pub into-within : (q s A : ℕ) → has q A ≡ true → sub s A ≡ true → sub (into q s) A ≡ true
+into-within q s A h i = has-sub (into q s) A (λ r x. go r (into-cases q r s x))
+  where
+    go : (r : ℕ) → (r ≡ q) ⊎ (has r s ≡ true) → has r A ≡ true
+    go r (inl e) = ap (λ (z : ℕ). has z A) e ∙ h
+    go r (inr x) = sub-has r s A i x
+
+-- a part taken out and put back
+pub out-into : (q s : ℕ) → has q s ≡ true → into q (out q s) ≡ s
+out-into q s h = same-parts (into q (out q s)) s (λ r x. go r (into-cases q r (out q s) x)) (λ r x. back r x (eqb r q) refl)
+  where
+    go : (r : ℕ) → (r ≡ q) ⊎ (has r (out q s) ≡ true) → has r s ≡ true
+    go r (inl e) = ap (λ (z : ℕ). has z s) e ∙ h
+    go r (inr x) = out-part q r s x
+
+    back : (r : ℕ) → has r s ≡ true → (t : Bool) → eqb r q ≡ t → has r (into q (out q s)) ≡ true
+    back r x true e = ap (λ (z : ℕ). has z (into q (out q s))) (eqb-true r q e) ∙ into-has q (out q s)
+    back r x false e = into-keeps q r (out q s) (out-keeps q r s x (eqb-false r q e))
+
+-- two sets that lack q, each with q: the same only where they were
+pub into-inj : (q a b : ℕ) → has q a ≡ false → has q b ≡ false → into q a ≡ into q b → a ≡ b
+into-inj q a b ha hb e = same-parts a b (λ r x. go a b ha e r x) (λ r x. go b a hb (sym e) r x)
+  where
+    pick : (u v : ℕ) → has q u ≡ false → (r : ℕ) → has r u ≡ true → (r ≡ q) ⊎ (has r v ≡ true) → has r v ≡ true
+    pick u v h r x (inl s) = never (has r u) x (ap (λ (z : ℕ). has z u) s ∙ h)
+    pick u v h r x (inr y) = y
+
+    go : (u v : ℕ) → has q u ≡ false → into q u ≡ into q v → (r : ℕ) → has r u ≡ true → has r v ≡ true
+    go u v h f r x = pick u v h r x (into-cases q r v (ap (has r) (sym f) ∙ into-keeps q r u x))
+
+-- ---- sizes
+
+-- a part of b outside a
+pub outside : (a b : ℕ) → size (meet a b) < size b → (q : ℕ) × (has q b ≡ true) × (has q a ≡ false)
+outside a b h =
+    let some : minus b a ≡ 0 → ⊥ = λ z. omega (arith, size-minus b a, ap size z, size-empty, ap size (meet-comm a b)) in
+    let q = lowest (minus b a) in
+    let t = sym (has-minus q b a) ∙ lowest-has (minus b a) some in
+    (q, and-left (has q b) (not (has q a)) t, not-true (has q a) (and-right (has q b) (not (has q a)) t))
+
+-- some set of n parts inside a set of n or more
+pub shrink : (n S : ℕ) → n ≤ size S → (c : ℕ) × (size c ≡ n) × (sub c S ≡ true)
+shrink n S h = (lows n S, omega (arith, lows-size S n), lows-sub S n)
+
+-- sets of k parts that share k parts are one
+pub same-set : (k a b : ℕ) → size a ≡ k → size b ≡ k → k ≤ size (meet a b) → a ≡ b
+same-set k a b sa sb l =
+    sym (sub-same (meet a b) a (meet-sub-l a b) (omega (arith, sub-size (meet a b) a (meet-sub-l a b))))
+    ∙ sub-same (meet a b) b (meet-sub-r a b) (omega (arith, sub-size (meet a b) b (meet-sub-r a b)))
+
+pub size-more : (q s : ℕ) → has q s ≡ false → size (into q s) ≡ suc (size s)
+size-more q s h = omega (arith, size-into q s h)
+
+pub size-less : (q s : ℕ) → has q s ≡ true → suc (size (out q s)) ≡ size s
+size-less q s h = omega (arith, size-out q s h)
+
+-- a set inside another of one part more lacks just one of its parts
+pub one-lacking : (s t : ℕ) → sub s t ≡ true → suc (size s) ≡ size t → (q : ℕ) × (has q t ≡ true) × (has q s ≡ false) × (s ≡ out q t)
+one-lacking s t i h =
+    let o = outside s t (omega (arith, sub-size (meet s t) s (meet-sub-l s t))) in
+    let q : ℕ = o .0 in
+    let inside : sub s (out q t) ≡ true = has-sub s (out q t) (λ r x. out-keeps q r t (sub-has r s t i x) (λ e. never (has r s) x (ap (λ (z : ℕ). has z s) e ∙ o .2))) in
+    (q, o .1, o .2, sub-same s (out q t) inside (omega (arith, size-less q t (o .1))))
+
+-- some set of k parts of A has the part q of A
+pub with-part : (k q A : ℕ) → 1 ≤ k → k ≤ size A → has q A ≡ true → (c : ℕ) × (size c ≡ k) × (sub c A ≡ true) × (has q c ≡ true)
+with-part (suc k) q A h l t =
+    let s = shrink k (out q A) (omega (arith, size-less q A t)) in
+    let c : ℕ = s .0 in
+    (into q c, omega (arith, size-more q c (lacks c (s .2)), s .1), into-within q c A t (sub-trans c (out q A) A (s .2) (has-sub (out q A) A (λ r. out-part q r A))), into-has q c)
+  where
+    lacks : (c : ℕ) → sub c (out q A) ≡ true → has q c ≡ false
+    lacks c i = go (split (has q c))
+      where
+        go : (has q c ≡ true) ⊎ (has q c ≡ false) → has q c ≡ false
+        go (inl x) = never (has q (out q A)) (sub-has q c (out q A) i x) (out-lacks q A)
+        go (inr x) = x
+with-part zero q A h l t = absurd (omega arith)

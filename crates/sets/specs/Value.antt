@@ -1,0 +1,33 @@
+-- The value of a set that the code holds, of a table of such sets, and the bytes of a set, as numbers.
+-- No other file says how many words a set has. Assumes nothing.
+use mathlib.Core.List.{List, [], _∷_}
+use Prim.Native.Nat.{ℕ, zero, suc, _/_, _%_, _^_}
+use lib.ListN.{length, getD, set}
+use Rattle.sets.specs.declared.Set.{Set}
+
+-- how many parts a set of the code can hold
+abbrev pub width : ℕ
+width = 64
+
+unfoldable pub num : Set → ℕ
+num s = s .word
+
+-- how many sets a table holds, the set at i (empty past the end), and the table with the set of number n at i
+unfoldable pub rows : List ℕ → ℕ
+rows xs = length xs
+
+unfoldable pub row : List ℕ → ℕ → ℕ
+row xs i = getD xs i 0
+
+unfoldable pub store : List ℕ → ℕ → ℕ → List ℕ
+store xs i n = set xs i n
+
+-- n bytes of x, high byte first
+unfoldable pub bytes : ℕ → ℕ → List ℕ
+bytes zero x = []
+bytes (suc n) x = x / 256 ^ n % 256 ∷ bytes n x
+
+-- a set in a listing or a tree line: its number, high byte first
+unfoldable pub setBytes : ℕ → List ℕ
+unfolding bytes
+setBytes s = bytes 8 s

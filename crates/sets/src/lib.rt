@@ -1,0 +1,192 @@
+// Sets of parts 0 to 63, held by value, and tables of them. The number of a set is `num` of specs/Value.antt; each contract gives the
+// number of the answer by a function of specs/Sets.antt, and a table by the functions of specs/Value.antt.
+ghost use mathlib.Core.Path.{_≡_};
+ghost use mathlib.Core.Bool.{cond};
+ghost use lib.Dec.{ltb, eqb};
+ghost use lib.ListN.{length, replicate};
+ghost use Rattle.sets.specs.Sets.{has, one, meet, union, minus, into, out, size, sub, before, lowest, lows};
+ghost use Rattle.sets.specs.Value.{width, num, rows, row, store};
+
+// Its word is nobody else's to see: a wider set changes this crate alone.
+pub struct Set {
+    word: u64,
+}
+
+pub fn empty() -> Set
+    ensures { λ r. ⌜ num r ≡ 0 ⌝ }
+{
+    Set { word: 0 }
+}
+
+// The set of q alone; the empty set where q is no part, 64 or more.
+pub fn single(q: usize) -> Set
+    ensures { λ r. ⌜ num r ≡ cond (ltb q width) (one q) 0 ⌝ }
+{
+    if q < 64 {
+        let bit: u64 = 1 << q;
+        Set { word: bit }
+    } else {
+        Set { word: 0 }
+    }
+}
+
+// Whether q is a part of s.
+pub fn has(s: Set, q: usize) -> bool
+    ensures { λ r. ⌜ r ≡ has q (num s) ⌝ }
+{
+    if q < 64 {
+        (s.word >> q) & 1 == 1
+    } else {
+        false
+    }
+}
+
+pub fn union(s: Set, t: Set) -> Set
+    ensures { λ r. ⌜ num r ≡ union (num s) (num t) ⌝ }
+{
+    Set {
+        word: s.word | t.word,
+    }
+}
+
+// The parts that both have.
+pub fn meet(s: Set, t: Set) -> Set
+    ensures { λ r. ⌜ num r ≡ meet (num s) (num t) ⌝ }
+{
+    Set {
+        word: s.word & t.word,
+    }
+}
+
+// The parts of s that t lacks.
+pub fn minus(s: Set, t: Set) -> Set
+    ensures { λ r. ⌜ num r ≡ minus (num s) (num t) ⌝ }
+{
+    Set {
+        word: s.word & !t.word,
+    }
+}
+
+// s and q; s alone where q is no part.
+pub fn with(s: Set, q: usize) -> Set
+    ensures { λ r. ⌜ num r ≡ cond (ltb q width) (into q (num s)) (num s) ⌝ }
+{
+    union(s, single(q))
+}
+
+// s less q.
+pub fn without(s: Set, q: usize) -> Set
+    ensures { λ r. ⌜ num r ≡ out q (num s) ⌝ }
+{
+    minus(s, single(q))
+}
+
+// How many parts s has.
+pub fn count(s: Set) -> usize
+    ensures { λ r. ⌜ r ≡ size (num s) ⌝ }
+{
+    u64::count_ones(s.word) as usize
+}
+
+// Whether each part of s is one of t.
+pub fn subset(s: Set, t: Set) -> bool
+    ensures { λ r. ⌜ r ≡ sub (num s) (num t) ⌝ }
+{
+    s.word & t.word == s.word
+}
+
+// Whether s comes before t: sets stand in the order of their numbers.
+pub fn less(s: Set, t: Set) -> bool
+    ensures { λ r. ⌜ r ≡ before (num s) (num t) ⌝ }
+{
+    s.word < t.word
+}
+
+pub fn same(s: Set, t: Set) -> bool
+    ensures { λ r. ⌜ r ≡ eqb (num s) (num t) ⌝ }
+{
+    s.word == t.word
+}
+
+// The lowest part, and 64 for the empty set.
+pub fn lowest(s: Set) -> usize
+    ensures { λ r. ⌜ r ≡ cond (eqb (num s) 0) width (lowest (num s)) ⌝ }
+{
+    u64::trailing_zeros(s.word) as usize
+}
+
+pub fn is_empty(s: Set) -> bool
+    ensures { λ r. ⌜ r ≡ eqb (num s) 0 ⌝ }
+{
+    s.word == 0
+}
+
+// The k lowest parts of s, or all of them where s has no more.
+pub fn lows(s: Set, k: usize) -> Set
+    ensures { λ r. ⌜ num r ≡ lows k (num s) ⌝ }
+{
+    let mut taken = empty();
+    let mut rest = s;
+    let mut n = 0;
+    while n < k {
+        if is_empty(rest) {
+            return taken;
+        }
+        let q = lowest(rest);
+        taken = with(taken, q);
+        rest = without(rest, q);
+        n += 1;
+    }
+    taken
+}
+
+// The set of one word, and the word of a set, for the C interface. A wider set will take more words.
+pub fn from_word(word: u64) -> Set
+    ensures { λ r. ⌜ num r ≡ word ⌝ }
+{
+    Set { word }
+}
+
+pub fn word(s: Set) -> u64
+    ensures { λ r. ⌜ r ≡ num s ⌝ }
+{
+    s.word
+}
+
+// How many sets a table holds.
+pub fn rows(table: &[u64]) -> usize
+    ensures { λ r. ⌜ r ≡ rows (now (table .entry)) ⌝ }
+{
+    table.len()
+}
+
+// The set at i of a table; the empty set past its end.
+pub fn at(table: &[u64], i: usize) -> Set
+    ensures { λ r. ⌜ num r ≡ row (now (table .entry)) i ⌝ }
+{
+    if i < table.len() {
+        Set { word: table[i] }
+    } else {
+        Set { word: 0 }
+    }
+}
+
+// s at i of a table; past its end nothing changes.
+pub fn put(table: &mut [u64], i: usize, s: Set)
+    ensures { λ r. ⌜ now (table .exit) ≡ store (now (table .entry)) i (num s) ⌝ }
+{
+    if i < table.len() {
+        table[i] = s.word;
+    }
+}
+
+// Every word of a table becomes zero: each of its sets is the empty set.
+pub fn clear(table: &mut [u64])
+    ensures { λ r. ⌜ now (table .exit) ≡ replicate (length (now (table .entry))) 0 ⌝ }
+{
+    let mut i = 0;
+    while i < table.len() {
+        table[i] = 0;
+        i += 1;
+    }
+}

@@ -1,0 +1,95 @@
+// Runs each function of the crate sets on a few sets, edges among them, and prints what it answers: held to the file stdout.
+use libc::STDOUT_FILENO;
+use sets::Set;
+
+fn number(n: u64) {
+    io::print_decimal(STDOUT_FILENO, n);
+    io::write_all(STDOUT_FILENO, b" ");
+}
+
+fn count(n: usize) {
+    number(n as u64);
+}
+
+fn set(s: Set) {
+    number(sets::word(s));
+}
+
+fn truth(t: bool) {
+    if t {
+        io::write_all(STDOUT_FILENO, b"yes ");
+    } else {
+        io::write_all(STDOUT_FILENO, b"no ");
+    }
+}
+
+fn end() {
+    io::write_all(STDOUT_FILENO, b"\n");
+}
+
+// What is asked of two sets.
+fn pair(a: u64, b: u64) {
+    let s = sets::from_word(a);
+    let t = sets::from_word(b);
+    io::write_all(STDOUT_FILENO, b"pair ");
+    set(s);
+    set(t);
+    set(sets::union(s, t));
+    set(sets::meet(s, t));
+    set(sets::minus(s, t));
+    truth(sets::subset(s, t));
+    truth(sets::less(s, t));
+    truth(sets::same(s, t));
+    end();
+}
+
+// What is asked of a set and a part or a number.
+fn part(a: u64, q: usize) {
+    let s = sets::from_word(a);
+    io::write_all(STDOUT_FILENO, b"part ");
+    set(s);
+    count(q);
+    truth(sets::has(s, q));
+    set(sets::single(q));
+    set(sets::with(s, q));
+    set(sets::without(s, q));
+    set(sets::lows(s, q));
+    count(sets::count(s));
+    count(sets::lowest(s));
+    truth(sets::is_empty(s));
+    end();
+}
+
+// A table of sets: written, read within and past its end, cleared.
+fn table() {
+    let mut rows: [u64; 3] = [1, 2, 3];
+    sets::put(&mut rows, 1, sets::from_word(28));
+    sets::put(&mut rows, 3, sets::from_word(9));
+    io::write_all(STDOUT_FILENO, b"table ");
+    count(sets::rows(&rows));
+    set(sets::at(&rows, 0));
+    set(sets::at(&rows, 1));
+    set(sets::at(&rows, 2));
+    set(sets::at(&rows, 3));
+    sets::clear(&mut rows);
+    set(sets::at(&rows, 0));
+    set(sets::at(&rows, 2));
+    end();
+}
+
+fn main() {
+    set(sets::empty());
+    end();
+    pair(7, 14);
+    pair(14, 7);
+    pair(7, 7);
+    pair(0, 9223372036854775808);
+    pair(18446744073709551615, 28);
+    part(28, 2);
+    part(28, 0);
+    part(0, 5);
+    part(9223372036854775809, 63);
+    part(18446744073709551615, 64);
+    part(1057, 1000);
+    table();
+}
