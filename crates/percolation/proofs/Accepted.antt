@@ -1,0 +1,275 @@
+-- What a link that passes 6 to 9 satisfies, legal lists of links, and the accepted links of a list of inserts. Assumes nothing.
+use mathlib.Core.Path.{_≡_, refl, sym, ap, ap₂, _∙_, fun-ext}
+use mathlib.Core.Bool.{Bool, true, false, cond, not, _&&_, _||_, and-comm}
+use mathlib.Core.List.{List, [], _∷_, _++_, List·Memᴰ·not-nil}
+use Prim.Native.Nat.{ℕ, suc, _≤_, _<_}
+use native.Mathlib.Omega.{arith}
+use lib.Dec.{eqb, leb, ltb, leb·zero}
+use lib.ListN.{length}
+use borrow.Author.Tests.{ltb-true, ltb-false, lt-ltb, le-ltb, leb-true, le-leb, eqb-true, eqb-false, eq-eqb, ne-eqb}
+use Rattle.answers.specs.Verdict.{Verdict, accepted, refused, _then_, unless, passes}
+use Rattle.answers.proofs.Laws.{last-go, then-left, then-right, then-both, unless-passed}
+use Rattle.sets.specs.Lists.{_∈_, any, all, eachTwo}
+use Rattle.sets.specs.Sets.{size, sub, members, setsOf}
+use Rattle.sets.proofs.Tests.{never, iff, and-intro, and-left, and-right, not-true, not-false}
+use Rattle.sets.proofs.ListLaws.{no-member, all-of, all-not, all-more, keep-of, eachTwo-more, eachTwo-later, eachTwo-some}
+use Rattle.sets.proofs.Members.{members-length, sets-of}
+use Rattle.percolation.specs.Links.{Link, joins, linked, clique, cliques, slotSets, slots}
+use Rattle.percolation.proofs.SlotCount.{slot-of}
+use Rattle.percolation.specs.Steps.{goodParts, rises, checkLink, legal, enough, checkInsert, accept, acceptedLinks, insertAnswers}
+
+-- ---- 6 to 9
+
+pub good-parts : (p : ℕ) (l : Link) → goodParts p l ≡ true → (l .low < l .high) × (l .high < p)
+unfolding goodParts
+good-parts p l t =
+    let r = and-right (ltb (l .low) p) (ltb (l .high) p && ltb (l .low) (l .high)) t in (
+      ltb-true (l .low) (l .high) (and-right (ltb (l .high) p) (ltb (l .low) (l .high)) r),
+      ltb-true (l .high) p (and-left (ltb (l .high) p) (ltb (l .low) (l .high)) r),
+    )
+
+pub parts-good : (p : ℕ) (l : Link) → l .low < l .high → l .high < p → goodParts p l ≡ true
+unfolding goodParts
+parts-good p l h g =
+    and-intro (ltb (l .low) p) (ltb (l .high) p && ltb (l .low) (l .high)) (lt-ltb (l .low) p (omega arith))
+    (and-intro (ltb (l .high) p) (ltb (l .low) (l .high)) (lt-ltb (l .high) p g) (lt-ltb (l .low) (l .high) h))
+
+module _ (p : ℕ) (L : List Link) (l : Link) (a : ℕ) where
+  -- the checks from 9, from 8 and from 7 on
+  abbrev from9 : Verdict
+  from9 = unless (not (linked L (l .low) (l .high))) 9 a
+
+  abbrev from8 : Verdict
+  from8 = unless (not (rises L l)) 8 a then from9
+
+  abbrev from7 : Verdict
+  from7 = unless (not (eqb (l .weight) 0)) 7 a then from8
+
+  pub check-parts : checkLink p L l a ≡ accepted → goodParts p l ≡ true
+  unfolding checkLink
+  check-parts e = unless-passed (goodParts p l) 6 a (then-left (unless (goodParts p l) 6 a) from7 e)
+
+  past6 : checkLink p L l a ≡ accepted → from7 ≡ accepted
+  unfolding checkLink
+  past6 e = then-right (unless (goodParts p l) 6 a) from7 e
+
+  past7 : checkLink p L l a ≡ accepted → from8 ≡ accepted
+  past7 e = then-right (unless (not (eqb (l .weight) 0)) 7 a) from8 (past6 e)
+
+  pub check-weight : checkLink p L l a ≡ accepted → 1 ≤ l .weight
+  check-weight e =
+      let t = unless-passed (not (eqb (l .weight) 0)) 7 a (then-left (unless (not (eqb (l .weight) 0)) 7 a) from8 (past6 e)) in
+      let ne = eqb-false (l .weight) 0 (not-true (eqb (l .weight) 0) t) in
+      omega arith
+
+  pub check-fall : checkLink p L l a ≡ accepted → rises L l ≡ false
+  check-fall e = not-true (rises L l) (unless-passed (not (rises L l)) 8 a (then-left (unless (not (rises L l)) 8 a) from9 (past7 e)))
+
+  pub check-new : checkLink p L l a ≡ accepted → linked L (l .low) (l .high) ≡ false
+  check-new e =
+      not-true (linked L (l .low) (l .high)) (unless-passed (not (linked L (l .low) (l .high))) 9 a (then-right (unless (not (rises L l)) 8 a) from9 (past7 e)))
+
+  pub check-passes : goodParts p l ≡ true → 1 ≤ l .weight → rises L l ≡ false → linked L (l .low) (l .high) ≡ false → checkLink p L l a ≡ accepted
+  unfolding checkLink
+  check-passes g w r n =
+      let v6 = last-go (goodParts p l) 6 a g in
+      let v7 = last-go (not (eqb (l .weight) 0)) 7 a (not-false (eqb (l .weight) 0) (ne-eqb (l .weight) 0 (λ e. omega arith))) in
+      let v8 = last-go (not (rises L l)) 8 a (not-false (rises L l) r) in
+      let v9 = last-go (not (linked L (l .low) (l .high))) 9 a (not-false (linked L (l .low) (l .high)) n) in
+      then-both (unless (goodParts p l) 6 a) from7 v6
+      (then-both (unless (not (eqb (l .weight) 0)) 7 a) from8 v7 (then-both (unless (not (rises L l)) 8 a) from9 v8 v9))
+
+-- ---- legal lists of links: the three tests of the definition
+
+abbrev fits : ℕ → Link → Bool
+fits p l = goodParts p l && leb 1 (l .weight)
+
+abbrev falls : Link → Link → Bool
+falls l m = leb (m .weight) (l .weight)
+
+abbrev apart : Link → Link → Bool
+apart l m = not (joins (l .low) (l .high) m)
+
+legal-fits : (p : ℕ) (L : List Link) → legal p L ≡ true → all (fits p) L ≡ true
+unfolding legal
+legal-fits p L t = and-left (all (fits p) L) (eachTwo falls L && eachTwo apart L) t
+
+legal-falls : (p : ℕ) (L : List Link) → legal p L ≡ true → eachTwo falls L ≡ true
+unfolding legal
+legal-falls p L t = and-left (eachTwo falls L) (eachTwo apart L) (and-right (all (fits p) L) (eachTwo falls L && eachTwo apart L) t)
+
+pub legal-apart : (p : ℕ) (L : List Link) → legal p L ≡ true → eachTwo apart L ≡ true
+unfolding legal
+legal-apart p L t = and-right (eachTwo falls L) (eachTwo apart L) (and-right (all (fits p) L) (eachTwo falls L && eachTwo apart L) t)
+
+legal-from : (p : ℕ) (L : List Link) → all (fits p) L ≡ true → eachTwo falls L ≡ true → eachTwo apart L ≡ true → legal p L ≡ true
+unfolding legal
+legal-from p L f g h = and-intro (all (fits p) L) (eachTwo falls L && eachTwo apart L) f (and-intro (eachTwo falls L) (eachTwo apart L) g h)
+
+-- ---- what a legal list satisfies
+
+module _ (p : ℕ) (L : List Link) (ok : legal p L ≡ true) where
+  pub legal-parts : (l : Link) → l ∈ L → goodParts p l ≡ true
+  legal-parts l m = and-left (goodParts p l) (leb 1 (l .weight)) (all-of (fits p) L (legal-fits p L ok) m)
+
+  pub legal-positive : (l : Link) → l ∈ L → 1 ≤ l .weight
+  legal-positive l m = leb-true 1 (l .weight) (and-right (goodParts p l) (leb 1 (l .weight)) (all-of (fits p) L (legal-fits p L ok) m))
+
+  pub legal-falling : (A B : List Link) (l m : Link) → L ≡ A ++ (l ∷ B) → m ∈ B → m .weight ≤ l .weight
+  legal-falling A B l m e n = leb-true (m .weight) (l .weight) (eachTwo-later falls A B l m (ap (eachTwo falls) (sym e) ∙ legal-falls p L ok) n)
+
+  pub legal-once : (A B : List Link) (l m : Link) → L ≡ A ++ (l ∷ B) → m ∈ B → joins (l .low) (l .high) m ≡ false
+  legal-once A B l m e n =
+      not-true (joins (l .low) (l .high) m) (eachTwo-later apart A B l m (ap (eachTwo apart) (sym e) ∙ legal-apart p L ok) n)
+
+-- ---- one link more
+
+-- l does not rise over the last of a falling list exactly when it rises over none
+not-above : (L : List Link) (l : Link) → eachTwo falls L ≡ true → rises L l ≡ false → all (λ m. falls m l) L ≡ true
+unfolding eachTwo all rises
+not-above [] l t r = refl
+not-above (b ∷ []) l t r = and-intro (falls b l) true (le-leb (l .weight) (b .weight) (ltb-false (b .weight) (l .weight) r)) refl
+not-above (b ∷ c ∷ L) l t r =
+    let rest = not-above (c ∷ L) l (and-right (all (falls b) (c ∷ L)) (eachTwo falls (c ∷ L)) t) r in
+    let bc = leb-true (c .weight) (b .weight) (and-left (falls b c) (all (falls b) L) (and-left (all (falls b) (c ∷ L)) (eachTwo falls (c ∷ L)) t)) in
+    let cl = leb-true (l .weight) (c .weight) (and-left (falls c l) (all (λ m. falls m l) L) rest) in
+    and-intro (falls b l) (all (λ m. falls m l) (c ∷ L)) (le-leb (l .weight) (b .weight) (omega arith)) rest
+
+no-rise : (L : List Link) (l : Link) → all (λ m. falls m l) L ≡ true → rises L l ≡ false
+unfolding all rises
+no-rise [] l t = refl
+no-rise (b ∷ []) l t = le-ltb (b .weight) (l .weight) (leb-true (l .weight) (b .weight) (and-left (falls b l) true t))
+no-rise (b ∷ c ∷ L) l t = no-rise (c ∷ L) l (and-right (falls b l) (all (λ m. falls m l) (c ∷ L)) t)
+
+eqb-turn : (a b : ℕ) → eqb a b ≡ eqb b a
+eqb-turn a b = iff (eqb a b) (eqb b a) (λ e. eq-eqb b a (sym (eqb-true a b e))) (λ e. eq-eqb a b (sym (eqb-true b a e)))
+
+pub joins-turn : (l m : Link) → joins (l .low) (l .high) m ≡ joins (m .low) (m .high) l
+unfolding joins
+joins-turn l m =
+    ap₂ _||_ (ap₂ _&&_ (eqb-turn (m .low) (l .low)) (eqb-turn (m .high) (l .high)))
+    (and-comm (eqb (m .low) (l .high)) (eqb (m .high) (l .low)) ∙ ap₂ _&&_ (eqb-turn (m .high) (l .low)) (eqb-turn (m .low) (l .high)))
+
+-- no pair of L is the pair of l
+new-apart : (L : List Link) (l : Link) → all (λ m. apart m l) L ≡ not (linked L (l .low) (l .high))
+unfolding linked
+new-apart L l = same L ∙ all-not (joins (l .low) (l .high)) L
+  where
+    same : (M : List Link) → all (λ m. apart m l) M ≡ all (λ m. not (joins (l .low) (l .high) m)) M
+    same M = ap (λ (f : Link → Bool). all f M) (fun-ext (λ m. ap not (joins-turn m l)))
+
+pub legal-none : (p : ℕ) → legal p [] ≡ true
+unfolding legal
+legal-none p = refl
+
+module _ (p : ℕ) (L : List Link) (l : Link) (a : ℕ) where
+  pub legal-more : legal p L ≡ true → checkLink p L l a ≡ accepted → legal p (L ++ (l ∷ [])) ≡ true
+  legal-more ok e =
+      let fit = and-intro (goodParts p l) (leb 1 (l .weight)) (check-parts p L l a e) (le-leb 1 (l .weight) (check-weight p L l a e)) in
+      let low = not-above L l (legal-falls p L ok) (check-fall p L l a e) in
+      let new = new-apart L l ∙ not-false (linked L (l .low) (l .high)) (check-new p L l a e) in
+      legal-from p (L ++ (l ∷ [])) (all-more (fits p) L l ∙ and-intro (all (fits p) L) (fits p l) (legal-fits p L ok) fit)
+      (eachTwo-more falls L l ∙ and-intro (eachTwo falls L) (all (λ m. falls m l) L) (legal-falls p L ok) low)
+      (eachTwo-more apart L l ∙ and-intro (eachTwo apart L) (all (λ m. apart m l) L) (legal-apart p L ok) new)
+
+  pub legal-init : legal p (L ++ (l ∷ [])) ≡ true → (legal p L ≡ true) × (checkLink p L l a ≡ accepted)
+  legal-init ok =
+      let f = sym (all-more (fits p) L l) ∙ legal-fits p (L ++ (l ∷ [])) ok in
+      let g = sym (eachTwo-more falls L l) ∙ legal-falls p (L ++ (l ∷ [])) ok in
+      let h = sym (eachTwo-more apart L l) ∙ legal-apart p (L ++ (l ∷ [])) ok in
+      let i = and-right (all (fits p) L) (fits p l) f in (
+        legal-from p L (and-left (all (fits p) L) (fits p l) f) (and-left (eachTwo falls L) (all (λ m. falls m l) L) g)
+            (and-left (eachTwo apart L) (all (λ m. apart m l) L) h),
+        check-passes p L l a (and-left (goodParts p l) (leb 1 (l .weight)) i) (leb-true 1 (l .weight) (and-right (goodParts p l) (leb 1 (l .weight)) i))
+            (no-rise L l (and-right (eachTwo falls L) (all (λ m. falls m l) L) g))
+            (not-true (linked L (l .low) (l .high)) (sym (new-apart L l) ∙ and-right (eachTwo apart L) (all (λ m. apart m l) L) h)),
+      )
+
+-- ---- no links: no k-clique, no slot
+
+pub cliques-none : (p k : ℕ) → 2 ≤ k → cliques [] p k ≡ []
+unfolding cliques clique linked any
+cliques-none p k two = no-member (cliques [] p k) none
+  where
+    none : (s : ℕ) → s ∈ cliques [] p k → ⊥
+    none s m =
+        let r = keep-of (λ s. eqb (size s) k && clique [] p s) (setsOf p) m in
+        let e = eqb-true (size s) k (and-left (eqb (size s) k) (clique [] p s) (r .1)) in
+        let n = members-length p s (sets-of p s (r .0)) in
+        let f = eachTwo-some (linked []) (members p s) (omega arith) (and-right (eqb (size s) k) (clique [] p s) (r .1)) in
+        never false (f .2) refl
+
+pub slots-none : (p k : ℕ) → slots p k [] ≡ 0
+unfolding slots
+slots-none p k = ap length (no-member (slotSets p k []) (λ s m. List·Memᴰ·not-nil (slot-of p k [] s m .member)))
+
+pub none-fit : (p k n : ℕ) → 2 ≤ k → enough n (slots p k (cliques [] p k)) ≡ true
+unfolding enough
+none-fit p k n two = rw (cliques-none p k two, slots-none) (and-intro (leb 0 n) true (leb·zero n) refl)
+
+-- ---- inserts
+
+module _ (p k n : ℕ) where
+  pub refused-keeps : (L : List Link) (l : Link) (a b : ℕ) → checkInsert p k n L l ≡ refused a b → accept p k n L l ≡ L
+  unfolding accept
+  refused-keeps L l a b e = ap (λ (v : Verdict). cond (passes v) (L ++ (l ∷ [])) L) e
+
+  pub accepted-adds : (L : List Link) (l : Link) → checkInsert p k n L l ≡ accepted → accept p k n L l ≡ L ++ (l ∷ [])
+  unfolding accept
+  accepted-adds L l e = ap (λ (v : Verdict). cond (passes v) (L ++ (l ∷ [])) L) e
+
+  -- an accepted insert passes 6 to 9 and 15
+  pub insert-checks : (L : List Link) (l : Link) → checkInsert p k n L l ≡ accepted → checkLink p L l 0 ≡ accepted
+  unfolding checkInsert
+  insert-checks L l e = then-left (checkLink p L l 0) _ e
+
+  pub insert-fits : (L : List Link) (l : Link) → checkInsert p k n L l ≡ accepted → enough n (slots p k (cliques (L ++ (l ∷ [])) p k)) ≡ true
+  unfolding checkInsert
+  insert-fits L l e =
+      let t = enough n (slots p k (cliques (L ++ (l ∷ [])) p k)) in
+      unless-passed t 15 0 (then-right (checkLink p L l 0) (unless t 15 0) e)
+
+  -- what every accepted insert keeps, an insert keeps, and a list of inserts
+  module _ (P : List Link → Type 0) (step : (L : List Link) (l : Link) → P L → checkInsert p k n L l ≡ accepted → P (L ++ (l ∷ []))) where
+    pub accept-keeps : (L : List Link) (l : Link) → P L → P (accept p k n L l)
+    accept-keeps L l h = go (checkInsert p k n L l) refl
+      where
+        go : (v : Verdict) → checkInsert p k n L l ≡ v → P (accept p k n L l)
+        go accepted e = rw (accepted-adds L l e) (step L l h e)
+        go (refused a b) e = rw (refused-keeps L l a b e) h
+
+    pub inserts-keep : (L X : List Link) → P L → P (acceptedLinks p k n L X)
+    unfolding acceptedLinks
+    inserts-keep L [] h = h
+    inserts-keep L (x ∷ X) h = inserts-keep (accept p k n L x) X (accept-keeps L x h)
+
+  legal-step : (L : List Link) (l : Link) → legal p L ≡ true → checkInsert p k n L l ≡ accepted → legal p (L ++ (l ∷ [])) ≡ true
+  legal-step L l ok e = legal-more p L l 0 ok (insert-checks L l e)
+
+  pub accept-legal : (L : List Link) (l : Link) → legal p L ≡ true → legal p (accept p k n L l) ≡ true
+  accept-legal L l ok = accept-keeps (λ M. legal p M ≡ true) legal-step L l ok
+
+  pub accepted-legal : (L X : List Link) → legal p L ≡ true → legal p (acceptedLinks p k n L X) ≡ true
+  accepted-legal L X ok = inserts-keep (λ M. legal p M ≡ true) legal-step L X ok
+
+  -- the accepted links have slots in the tables
+  pub accept-fit : (L : List Link) (l : Link) → enough n (slots p k (cliques L p k)) ≡ true → enough n (slots p k (cliques (accept p k n L l) p k)) ≡ true
+  accept-fit L l h = accept-keeps (λ M. enough n (slots p k (cliques M p k)) ≡ true) (λ M m _ e. insert-fits M m e) L l h
+
+  pub accepted-fit : (L X : List Link) → enough n (slots p k (cliques L p k)) ≡ true → enough n (slots p k (cliques (acceptedLinks p k n L X) p k)) ≡ true
+  accepted-fit L X h = inserts-keep (λ M. enough n (slots p k (cliques M p k)) ≡ true) (λ M l _ e. insert-fits M l e) L X h
+
+  pub answers-length : (L X : List Link) → length (insertAnswers p k n L X) ≡ length X
+  unfolding insertAnswers
+  answers-length L [] = refl
+  answers-length L (x ∷ X) = ap suc (answers-length (accept p k n L x) X)
+
+  pub accepted-append : (L X Y : List Link) → acceptedLinks p k n L (X ++ Y) ≡ acceptedLinks p k n (acceptedLinks p k n L X) Y
+  unfolding acceptedLinks
+  accepted-append L [] Y = refl
+  accepted-append L (x ∷ X) Y = accepted-append (accept p k n L x) X Y
+
+  pub answers-append : (L X Y : List Link) → insertAnswers p k n L (X ++ Y) ≡ insertAnswers p k n L X ++ insertAnswers p k n (acceptedLinks p k n L X) Y
+  unfolding insertAnswers acceptedLinks
+  answers-append L [] Y = refl
+  answers-append L (x ∷ X) Y = ap (λ (r : List Verdict). checkInsert p k n L x ∷ r) (answers-append (accept p k n L x) X Y)

@@ -1,0 +1,15 @@
+pub mod Accepted
+pub mod Chains
+pub mod Communities
+pub mod Examples
+pub mod Exchange
+pub mod Families
+pub mod Joining
+pub mod Levels
+pub mod Maximal
+pub mod Meet
+pub mod NewLink
+pub mod Ranges
+pub mod Same
+pub mod SlotCount
+pub mod Tree
