@@ -1,0 +1,62 @@
+-- What the table and the slot bound answer in each case of the code. Assumes nothing.
+use mathlib.Core.Bool.{Bool, true, false, _&&_}
+use mathlib.Core.Path.{_≡_, refl, sym, ap, _∙_}
+use Prim.Native.Nat.{ℕ, _-_, _≤_, _<_}
+use native.Mathlib.Omega.{arith}
+use borrow.Author.Tests.{leb-true, le-leb, lt-leb}
+use lib.Dec.{leb}
+use Rattle.answers.specs.Verdict.{unless}
+use Rattle.answers.specs.Answers.{counts, refuses, sayOf}
+use Rattle.answers.proofs.Laws.{stop, go, last-stop, last-go, say-accepted, say-refused}
+use Rattle.sets.proofs.Tests.{no-and}
+use Rattle.percolation.specs.Ranges.{inRange, goodCount, goodK}
+use Rattle.percolation.proofs.Ranges.{range-high}
+use Rattle.subsets.specs.Subsets.{subsetCount, tableCount, slotBound, checkBound}
+
+-- ---- the table
+
+pub far-count : (n r : ℕ) → 64 < n → 0 ≡ tableCount n r
+unfolding tableCount
+far-count n r h = rw (lt-leb n 64 h) refl
+
+pub far-parts : (n r : ℕ) → 6 < r → 0 ≡ tableCount n r
+unfolding tableCount
+far-parts n r h = rw (lt-leb r 6 h, no-and (leb n 64)) refl
+
+pub in-table : (n r : ℕ) → n ≤ 64 → r ≤ 6 → tableCount n r ≡ subsetCount n r
+unfolding tableCount
+in-table n r h l = rw (le-leb n 64 h, le-leb r 6 l) refl
+
+-- ---- the slot bound
+
+pub bound-over : (p k : ℕ) → p < k → slotBound p k ≡ 0
+unfolding slotBound
+bound-over p k h = rw (lt-leb k p h) refl
+
+pub bound-in : (p k : ℕ) → k ≤ p → slotBound p k ≡ subsetCount p (k - 1)
+unfolding slotBound
+bound-in p k h = rw (le-leb k p h) refl
+
+-- the table's answer is the bound
+pub bound-at : (p k : ℕ) → inRange 1 64 p ≡ true → inRange 2 6 k ≡ true → k ≤ p → tableCount p (k - 1) ≡ slotBound p k
+bound-at p k e f h =
+    let l : p ≤ 64 = range-high 1 64 p e in
+    let m : k ≤ 6 = range-high 2 6 k f in
+    in-table p (k - 1) l (omega arith) ∙ sym (bound-in p k h)
+
+module _ (p k n : ℕ) where
+  pub says-four : inRange 1 64 p ≡ false → refuses 4 0 ≡ sayOf (checkBound p k) n
+  unfolding goodCount checkBound
+  says-four e = sym (say-refused (checkBound p k) n 4 0 (stop (goodCount p) 4 0 (unless (goodK k) 10 0) e))
+
+  module _ (e : inRange 1 64 p ≡ true) where
+    pub says-ten : inRange 2 6 k ≡ false → refuses 10 0 ≡ sayOf (checkBound p k) n
+    unfolding goodCount goodK checkBound
+    says-ten f =
+        sym (say-refused (checkBound p k) n 10 0 (go (goodCount p) 4 0 (unless (goodK k) 10 0) e ∙ last-stop (goodK k) 10 0 f))
+
+    pub says-count : inRange 2 6 k ≡ true → (b : ℕ) → b ≡ n → counts b ≡ sayOf (checkBound p k) n
+    unfolding goodCount goodK checkBound
+    says-count f b s =
+        ap counts s
+        ∙ sym (say-accepted (checkBound p k) n (go (goodCount p) 4 0 (unless (goodK k) 10 0) e ∙ last-go (goodK k) 10 0 f))
