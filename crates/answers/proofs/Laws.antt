@@ -8,7 +8,7 @@ use lib.ListN.{length, drop, length-append, length-drop}
 use native.Mathlib.Decide.{decLt}
 use native.Mathlib.Omega.{arith}
 use Rattle.answers.specs.Verdict.{Verdict, accepted, refused, _then_, unless, inOrder, written}
-use Rattle.answers.specs.Answers.{Said, counts, refuses, sayOf}
+use Rattle.answers.specs.Answers.{counts, refuses, sayOf}
 
 -- ---- one check, alone or before others
 

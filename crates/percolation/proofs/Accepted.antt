@@ -10,7 +10,7 @@ use borrow.Author.Tests.{ltb-true, ltb-false, lt-ltb, le-ltb, leb-true, le-leb, 
 use Rattle.answers.specs.Verdict.{Verdict, accepted, refused, _then_, unless, passes}
 use Rattle.answers.proofs.Laws.{last-go, then-left, then-right, then-both, unless-passed}
 use Rattle.sets.specs.Lists.{_∈_, any, all, eachTwo}
-use Rattle.sets.specs.Sets.{size, sub, members, setsOf}
+use Rattle.sets.specs.Sets.{size, members, setsOf}
 use Rattle.sets.proofs.Tests.{never, iff, and-intro, and-left, and-right, not-true, not-false}
 use Rattle.sets.proofs.ListLaws.{no-member, all-of, all-not, all-more, keep-of, eachTwo-more, eachTwo-later, eachTwo-some}
 use Rattle.sets.proofs.Members.{members-length, sets-of}

@@ -2,12 +2,10 @@
 use mathlib.Core.Path.{_≡_, refl, sym, ap, _∙_, subst}
 use mathlib.Core.Logic.{_⊎_, inl, inr}
 use mathlib.Core.Bool.{Bool, true, false, not, _&&_}
-use mathlib.Core.List.{List, [], _∷_, flatten, List·Memᴰ, List·Memᴰ·head, List·Memᴰ·tail, List·Memᴰ·not-nil, List·Memᴰ·cases-cons, Memᴰ·cast}
-use Prim.Native.Nat.{ℕ, suc}
-use lib.Dec.{eqb, leb}
-use borrow.Author.Tests.{eqb-true, eq-eqb}
+use mathlib.Core.List.{List, [], _∷_, flatten, List·Memᴰ·head, List·Memᴰ·tail, List·Memᴰ·not-nil, List·Memᴰ·cases-cons}
+use Prim.Native.Nat.{ℕ}
+use lib.Dec.{eqb}
 use Rattle.sets.specs.Lists.{_∈_, any, keep}
-use Rattle.sets.specs.Sets.{meet, size}
 use Rattle.sets.proofs.Tests.{never, split, iff, and-intro, and-left, and-right, not-true, not-false}
 use Rattle.sets.proofs.ListLaws.{Holds, any-at, any-of, elem-at, elem-of, keep-at, keep-of, flat-at, flat-of}
 use Rattle.sets.proofs.Laws.{meet-comm}

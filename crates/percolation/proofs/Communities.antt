@@ -1,18 +1,17 @@
 -- What the communities of a family are: each member is in exactly one, and they depend on the members alone. The order of sets is any strict
 -- total order: only the laws of Rattle.sets.proofs.Order are cited. Assumes nothing.
 use mathlib.Core.Path.{_≡_, refl, sym, ap, ap₂, _∙_, subst}
-use mathlib.Core.Logic.{_⊎_, inl, inr}
-use mathlib.Core.Bool.{Bool, true, false, not, _&&_}
-use mathlib.Core.List.{List, [], _∷_, map, List·Memᴰ, List·Memᴰ·head, List·Memᴰ·tail, List·Memᴰ·not-nil, Memᴰ·map, Memᴰ·of-map, Memᴰ·cast}
-use Prim.Native.Nat.{ℕ, zero, suc}
+use mathlib.Core.Bool.{true, false, _&&_}
+use mathlib.Core.List.{List, [], _∷_, map, List·Memᴰ·head, List·Memᴰ·tail, List·Memᴰ·not-nil, Memᴰ·map, Memᴰ·of-map, Memᴰ·cast}
+use Prim.Native.Nat.{ℕ}
 use Rattle.sets.specs.Lists.{_∈_, any, keep, sorted}
-use Rattle.sets.specs.Sets.{has, unionOf, before}
-use Rattle.sets.proofs.Tests.{never, split, not-so, and-intro, and-left, and-right, not-true, not-false}
-use Rattle.sets.proofs.ListLaws.{Holds, Order, Rising, any-at, any-of, any-none, keep-at, keep-of, keep-rising, first-least, rising-same, sorted-of, sorted-at, sorted-rising}
+use Rattle.sets.specs.Sets.{has, before}
+use Rattle.sets.proofs.Tests.{never, not-so, and-intro, and-left, and-right, not-true, not-false}
+use Rattle.sets.proofs.ListLaws.{Holds, Rising, any-at, any-of, keep-at, keep-of, keep-rising, first-least, rising-same, sorted-of, sorted-at, sorted-rising}
 use Rattle.sets.proofs.Members.{union-part, union-has, union-same}
 use Rattle.sets.proofs.Order.{set-order}
 use Rattle.percolation.specs.Percolate.{adjacent, Chain, alone, joined, Community, shown, smallest, unionAt, communities}
-use Rattle.percolation.proofs.Chains.{adjacent-sym, first-in, last-in, chain-sym, chain-trans, chain-mono, joined-chain, chain-joined, joined-same}
+use Rattle.percolation.proofs.Chains.{adjacent-sym, last-in, chain-sym, chain-trans, chain-mono, joined-chain, chain-joined}
 
 -- a community is shown as the smallest of a class of members joined by chains, and the union of the class
 pub record Shows (k : ℕ) (F : List ℕ) (c : Community) : Type 0 where

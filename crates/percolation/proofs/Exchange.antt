@@ -1,7 +1,7 @@
 -- Any two k-sets of one set are joined by a chain of k-sets of that set: the ground of the maximal-clique run. Assumes nothing.
-use mathlib.Core.Path.{_≡_, refl, sym, ap, _∙_, subst}
+use mathlib.Core.Path.{_≡_, ap, _∙_, subst}
 use mathlib.Core.Logic.{_⊎_, inl, inr}
-use mathlib.Core.Bool.{Bool, true, false}
+use mathlib.Core.Bool.{true, false}
 use mathlib.Core.List.{List}
 use Prim.Native.Nat.{ℕ, zero, suc, _+_, _≤_, _<_}
 use native.Mathlib.Omega.{arith}
@@ -11,7 +11,7 @@ use Rattle.sets.specs.Lists.{_∈_}
 use Rattle.sets.specs.Sets.{has, meet, into, out, size, sub}
 use Rattle.sets.proofs.Tests.{never, split, lt-or-le}
 use Rattle.sets.proofs.Laws.{sub-has, has-sub, sub-trans, out-sub, into-has, meet-comm, sub-size}
-use Rattle.sets.proofs.Parts.{same-parts, meet-in, meet-l, meet-r, meet-sub-l, into-keeps, into-cases, into-within, out-keeps, out-part, out-lacks, outside, same-set, size-more, size-less, sub-both}
+use Rattle.sets.proofs.Parts.{same-parts, meet-in, meet-l, meet-r, into-keeps, into-cases, into-within, out-keeps, out-part, outside, same-set, size-more, size-less}
 use Rattle.percolation.specs.Percolate.{adjacent, Chain, alone, next}
 use Rattle.percolation.specs.Links.{Link, cliques}
 use Rattle.percolation.proofs.Chains.{chain-trans}

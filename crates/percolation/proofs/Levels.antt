@@ -1,13 +1,12 @@
 -- The levels of a list of links, the largest of a list of numbers, and the links of a threshold. Assumes nothing.
-use mathlib.Core.Path.{_≡_, refl, sym, ap, _∙_, subst}
+use mathlib.Core.Path.{_≡_, refl, sym, ap, subst}
 use mathlib.Core.Logic.{_⊎_, inl, inr}
-use mathlib.Core.Bool.{Bool, true}
 use mathlib.Core.List.{List, [], _∷_, map, foldr, List·Memᴰ·head, List·Memᴰ·tail, List·Memᴰ·not-nil, List·Memᴰ·cases-cons, Memᴰ·cast, Memᴰ·map, Memᴰ·of-map}
 use Prim.Native.Nat.{ℕ, _≤_, _<_, max}
 use native.Mathlib.Omega.{arith}
 use lib.Dec.{leb, ltb}
 use borrow.Author.Tests.{leb-true, le-leb}
-use Rattle.sets.specs.Lists.{_∈_, keep}
+use Rattle.sets.specs.Lists.{_∈_}
 use Rattle.sets.proofs.Tests.{iff, lt-or-le}
 use Rattle.sets.proofs.ListLaws.{Holds, Order, Rising, number-order, keep-at, keep-of, keep-all, keep-same, sorted-of, sorted-at, sorted-rising, sorted-same}
 use Rattle.percolation.specs.Links.{Link, heavy}

@@ -1,26 +1,26 @@
 -- The two methods agree: k-cliques are joined exactly where maximal cliques that hold them are joined by overlaps, and a class of maximal
 -- cliques shows the same smallest clique and union. Assumes nothing.
-use mathlib.Core.Path.{_≡_, refl, sym, ap, ap₂, _∙_, subst}
+use mathlib.Core.Path.{_≡_, refl, sym, ap, _∙_, subst}
 use mathlib.Core.Logic.{_⊎_, inl, inr, _↔_}
-use mathlib.Core.Bool.{Bool, true, false, not, _&&_}
-use mathlib.Core.List.{List, [], _∷_}
-use Prim.Native.Nat.{ℕ, zero, suc, _+_, _-_, _≤_, _<_, min}
+use mathlib.Core.Bool.{true, false, not, _&&_}
+use mathlib.Core.List.{List}
+use Prim.Native.Nat.{ℕ, zero, suc, _+_, _-_, _≤_, _<_}
 use native.Mathlib.Omega.{arith}
-use lib.Dec.{eqb, leb}
+use lib.Dec.{leb}
 use borrow.Author.Tests.{eqb-true, leb-true, le-leb}
 use Rattle.sets.specs.Lists.{_∈_, any, all, keep, below}
-use Rattle.sets.specs.Sets.{has, meet, into, out, size, sub, before, lows, members, unionOf, setsOf}
-use Rattle.sets.proofs.Tests.{never, split, iff, and-intro, and-left, and-right, not-true, not-false}
-use Rattle.sets.proofs.ListLaws.{Holds, Order, any-at, any-of, all-at, all-of, keep-at, keep-of, below-of, below-at, not-before}
-use Rattle.sets.proofs.Laws.{ext, sub-has, sub-refl, sub-trans, sub-size, size-le, into-has, meet-comm}
-use Rattle.sets.proofs.Members.{member-in, in-member, union-part, union-has, sets-of}
+use Rattle.sets.specs.Sets.{has, meet, into, size, sub, before, lows, members, unionOf, setsOf}
+use Rattle.sets.proofs.Tests.{split, and-intro, and-left, and-right, not-true, not-false}
+use Rattle.sets.proofs.ListLaws.{any-of, all-at, all-of, keep-at, keep-of, below-of, not-before}
+use Rattle.sets.proofs.Laws.{sub-has, sub-refl, sub-trans, sub-size, size-le}
+use Rattle.sets.proofs.Members.{member-in, in-member, union-part, union-has, sets-of, union-same}
 use Rattle.sets.proofs.LowParts.{lows-size, lows-sub, lows-least}
 use Rattle.sets.proofs.Order.{set-order}
-use Rattle.sets.proofs.Parts.{same-parts, meet-sub-l, meet-sub-r, meet-grows, into-cases, into-sub, into-within, outside, shrink, size-more, with-part}
-use Rattle.percolation.specs.Percolate.{adjacent, overlap, Chain, alone, next, joinedBy, joined, Community, shown, unionAt, communities}
+use Rattle.sets.proofs.Parts.{same-parts, meet-sub-l, meet-sub-r, meet-grows, into-cases, into-sub, into-within, outside, shrink, size-more, with-part, meet-in, sub-both}
+use Rattle.percolation.specs.Percolate.{adjacent, overlap, Chain, alone, next, joinedBy, Community, unionAt, communities}
 use Rattle.percolation.specs.Links.{Link, linked, clique, cliques, extends, maximals}
-use Rattle.percolation.proofs.Chains.{adjacent-sym, overlap-sym, first-in, last-in, chain-trans, chain-sym, joinedBy-chain, chain-joinedBy}
-use Rattle.percolation.proofs.Families.{Clique, linked-sym, clique-at, cliques-of, cliques-at, clique-part, in-sets, sets-part, inside-clique}
+use Rattle.percolation.proofs.Chains.{overlap-sym, first-in, last-in, chain-trans, chain-sym, joinedBy-chain, chain-joinedBy}
+use Rattle.percolation.proofs.Families.{Clique, linked-sym, clique-at, cliques-of, clique-part, in-sets, inside-clique}
 use Rattle.percolation.proofs.Communities.{Shows, at-part, at-has, communities-of, communities-at}
 use Rattle.percolation.proofs.Exchange.{near, clique-chain}
 
@@ -124,7 +124,7 @@ module _ (L : List Link) (p k : ℕ) where
       next mA (shares a a A B ia ib (omega (arith, cliques-of L p k m .sized, meet-grows a a a a (sub-refl a) (sub-refl a), whole a))) (alone mB)
     where
       whole : (s : ℕ) → size (meet s s) ≡ size s
-      whole s = ap size (same-parts (meet s s) s (λ q. sub-has q (meet s s) s (meet-sub-l s s)) (λ q h. Rattle.sets.proofs.Parts.meet-in q s s h h))
+      whole s = ap size (same-parts (meet s s) s (λ q. sub-has q (meet s s) s (meet-sub-l s s)) (λ q h. meet-in q s s h h))
   chain-overlap (next {a = a} {b = b} m t c) A B mA mB ia ib =
       let r = lies-in b (first-in c) in
       next mA (shares a b A (r .0) ia (r .2) (omega (arith, eqb-true (suc (size (meet a b))) k t))) (chain-overlap c (r .0) B (r .1) mB (r .2) ib)
@@ -156,7 +156,7 @@ module _ (L : List Link) (p k : ℕ) where
             leftIn = into-within (x .0) c A (x .1) cA;
             right = omega (arith, size-more (y .0) c (y .2));
             rightIn = into-within (y .0) c B (y .1) cB;
-            share = omega (arith, sub-size c (meet a b) (Rattle.sets.proofs.Parts.sub-both c a b (into-sub (x .0) c) (into-sub (y .0) c)));
+            share = omega (arith, sub-size c (meet a b) (sub-both c a b (into-sub (x .0) c) (into-sub (y .0) c)));
           },
         )
 
@@ -274,7 +274,7 @@ module _ (L : List Link) (p k : ℕ) (one : 1 ≤ k) where
       -- the classes of the base and of the bearer are one
       same-class : unionOf (keep (joinedBy (overlap k) M (h .base)) M) ≡ unionOf (keep (joinedBy (overlap k) M (h .bearer)) M)
       same-class =
-          Rattle.sets.proofs.Members.union-same (keep (joinedBy (overlap k) M (h .base)) M) (keep (joinedBy (overlap k) M (h .bearer)) M)
+          union-same (keep (joinedBy (overlap k) M (h .base)) M) (keep (joinedBy (overlap k) M (h .bearer)) M)
           (λ z m. move (h .base) (h .bearer) (chain-sym (overlap-sym k) (h .bears)) z m) (λ z m. move (h .bearer) (h .base) (h .bears) z m)
         where
           move : (x y : ℕ) → Chain (overlap k) M y x → (z : ℕ) → z ∈ keep (joinedBy (overlap k) M x) M → z ∈ keep (joinedBy (overlap k) M y) M

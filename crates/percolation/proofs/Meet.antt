@@ -1,22 +1,22 @@
 -- The meeting weight is the largest threshold from 1 at which a chain joins the two, never where none does; with itself a clique's weakest link;
 -- of three meeting weights the two lowest are equal. Assumes nothing.
-use mathlib.Core.Path.{_≡_, refl, sym, ap, ap₂, _∙_, subst}
+use mathlib.Core.Path.{_≡_, refl, sym, ap, _∙_, subst}
 use mathlib.Core.Logic.{_⊎_, inl, inr}
-use mathlib.Core.Bool.{Bool, true, false, not, _&&_}
-use mathlib.Core.List.{List, [], _∷_, List·Memᴰ·head, List·Memᴰ·tail, List·Memᴰ·not-nil, List·Memᴰ·cases-cons}
+use mathlib.Core.Bool.{Bool, true, _&&_}
+use mathlib.Core.List.{List}
 use Prim.Native.Nat.{ℕ, zero, suc, _≤_, _<_, min}
 use native.Mathlib.Omega.{arith}
-use Rattle.sets.specs.Lists.{_∈_, any, all, keep, eachTwo}
+use Rattle.sets.specs.Lists.{_∈_, any, keep}
 use Rattle.sets.specs.Sets.{has, size}
-use Rattle.sets.proofs.Tests.{never as both, split, iff, and-intro, and-left, and-right, not-true, lt-or-le}
+use Rattle.sets.proofs.Tests.{and-intro, and-left, and-right, lt-or-le}
 use Rattle.sets.proofs.ListLaws.{any-at, any-of, keep-at, keep-of, eachTwo-once}
 use Rattle.percolation.specs.Percolate.{adjacent, Chain, alone}
 use Rattle.percolation.specs.Links.{Link, heavy, joins, linked, cliques, family}
-use Rattle.percolation.specs.Levels.{Meeting, met, never, levels, joinedAt, largest, meeting, weightOf}
+use Rattle.percolation.specs.Levels.{Meeting, met, never, levels, joinedAt, meeting, weightOf}
 use Rattle.percolation.specs.Steps.{legal}
 use Rattle.percolation.proofs.Accepted.{good-parts, legal-parts, legal-positive, legal-apart, joins-turn}
 use Rattle.percolation.proofs.Chains.{adjacent-sym, first-in, chain-trans, chain-sym, joined-chain, chain-joined}
-use Rattle.percolation.proofs.Families.{Clique, cliques-of, cliques-at, joins-ends, joins-own, chain-lower}
+use Rattle.percolation.proofs.Families.{Clique, cliques-of, cliques-at, joins-ends, chain-lower}
 use Rattle.percolation.proofs.Levels.{heavy-of, heavy-at, levels-of, levels-at, largest-met, largest-never, nearest, Nearest, raise-links}
 use Rattle.percolation.proofs.Same.{another}
 

@@ -2,28 +2,27 @@
 -- Assumes nothing.
 use mathlib.Core.Path.{_≡_, refl, sym, ap, ap₂, _∙_}
 use mathlib.Core.Logic.{_⊎_, inl, inr}
-use mathlib.Core.Bool.{Bool, true, false}
+use mathlib.Core.Bool.{true}
 use mathlib.Core.List.{List, [], _∷_, _++_}
 use Prim.Native.Nat.{ℕ, suc, _+_, _≤_, _<_}
 use lib.ListN.{length}
 use native.Mathlib.Omega.{arith}
-use lib.Dec.{eqb}
 use borrow.Author.Tests.{eq-eqb}
 use Rattle.sets.specs.Lists.{_∈_, keep}
-use Rattle.sets.specs.Sets.{has, one, meet, size, setsOf}
+use Rattle.sets.specs.Sets.{has, one, size}
 use Rattle.sets.proofs.Tests.{never}
 use Rattle.sets.proofs.ListLaws.{Holds, any-of, keep-same}
 use Rattle.sets.proofs.Laws.{has-one, size-one, size-meet-l}
 use Rattle.sets.proofs.Parts.{outside}
-use Rattle.percolation.specs.Percolate.{Community, communities}
+use Rattle.percolation.specs.Percolate.{Community}
 use Rattle.percolation.specs.Links.{Link, heavy, joins, linked, cliques, family, listing, slots}
-use Rattle.percolation.specs.Levels.{Meeting, levels, joinedAt, largest, meeting}
+use Rattle.percolation.specs.Levels.{levels, joinedAt, largest, meeting}
 use Rattle.percolation.specs.Steps.{legal}
 use Rattle.percolation.specs.Tree.{Start, Branch, Level, classAt, heldBy, levelOf, startsFrom, linesFrom, tree}
 use Rattle.percolation.proofs.Accepted.{legal-parts, good-parts}
 use Rattle.percolation.proofs.Chains.{joined-same}
 use Rattle.percolation.proofs.Communities.{communities-same}
-use Rattle.percolation.proofs.Families.{Clique, cliques-of, cliques-at, joins-ends, linked-mono, in-sets}
+use Rattle.percolation.proofs.Families.{cliques-of, cliques-at, joins-ends, linked-mono, in-sets}
 use Rattle.percolation.proofs.Levels.{heavy-of, heavy-at, levels-same}
 use Rattle.percolation.proofs.SlotCount.{slots-same}
 

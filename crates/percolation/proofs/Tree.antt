@@ -8,7 +8,7 @@ use Prim.Native.Nat.{ℕ, suc, _+_, _≤_, _<_}
 use native.Mathlib.Omega.{arith}
 use lib.Dec.{eqb, ltb}
 use lib.ListN.{length, length-map}
-use borrow.Author.Tests.{ltb-true, eqb-true, eq-eqb}
+use borrow.Author.Tests.{ltb-true}
 use Rattle.sets.specs.Lists.{_∈_, any, keep}
 use Rattle.sets.specs.Sets.{before}
 use Rattle.sets.proofs.Tests.{never, split, not-so, iff}

@@ -1,6 +1,6 @@
 -- Percolation of a family F of k-sets: adjacency, chains, classes, communities. The family is any list of sets. Assumes nothing.
 use mathlib.Core.Path.{_≡_}
-use mathlib.Core.Bool.{Bool, true, false, not, _&&_}
+use mathlib.Core.Bool.{Bool, true, not, _&&_}
 use mathlib.Core.List.{List, [], _∷_, _++_, map, flatten}
 use Prim.Native.Nat.{ℕ, suc}
 use lib.Dec.{eqb, leb}

@@ -1,7 +1,7 @@
 -- What a link must satisfy, what an insert gets, and the accepted links of a list of inserts. Assumes nothing.
-use mathlib.Core.Bool.{Bool, true, false, cond, not, _&&_}
+use mathlib.Core.Bool.{Bool, false, cond, not, _&&_}
 use mathlib.Core.List.{List, [], _∷_, _++_}
-use Prim.Native.Nat.{ℕ, suc}
+use Prim.Native.Nat.{ℕ}
 use lib.Dec.{eqb, leb, ltb}
 use Rattle.answers.specs.Verdict.{Verdict, _then_, unless, passes}
 use Rattle.sets.specs.Lists.{all, eachTwo}

@@ -1,15 +1,15 @@
 -- Set operations by their parts: who is in a meet, a union, a set with one part more or less, and what lies inside what. Any width.
 -- Assumes nothing.
-use mathlib.Core.Bool.{Bool, true, false, not, _&&_, _||_}
+use mathlib.Core.Bool.{Bool, true, false, not}
 use mathlib.Core.Path.{_≡_, refl, sym, ap, _∙_}
 use mathlib.Core.Logic.{_⊎_, inl, inr}
-use Prim.Native.Nat.{ℕ, zero, suc, _+_, _≤_, _<_, min}
+use Prim.Native.Nat.{ℕ, zero, suc, _≤_, _<_}
 use native.Mathlib.Omega.{arith}
-use borrow.Author.Tests.{eqb-true, eqb-false, eq-eqb, ne-eqb}
+use borrow.Author.Tests.{eqb-true, eqb-false, ne-eqb}
 use lib.Dec.{eqb}
-use Rattle.sets.specs.Sets.{has, one, meet, union, minus, into, out, size, sub, lowest, lows}
-use Rattle.sets.proofs.Tests.{never, split, iff, and-intro, and-left, and-right, or-left, or-right, or-cases, not-true, not-false}
-use Rattle.sets.proofs.Laws.{has-meet, has-union, has-minus, has-into, has-out, ext, none, meet-comm, size-minus, size-empty, size-into, size-out, sub-has, has-sub, sub-size, sub-same, sub-antisym, sub-refl, sub-trans, into-has}
+use Rattle.sets.specs.Sets.{has, meet, union, minus, into, out, size, sub, lowest, lows}
+use Rattle.sets.proofs.Tests.{never, split, iff, and-intro, and-left, and-right, or-left, or-right, or-cases, not-true}
+use Rattle.sets.proofs.Laws.{has-meet, has-union, has-minus, has-into, has-out, ext, meet-comm, size-minus, size-empty, size-into, size-out, sub-has, has-sub, sub-size, sub-same, sub-trans, into-has}
 use Rattle.sets.proofs.Members.{lowest-has}
 use Rattle.sets.proofs.LowParts.{lows-size, lows-sub}
 

@@ -1,7 +1,7 @@
 -- Sets of parts as plain numbers: a set has the number that is the sum of 2 ^ q over its parts q. No width is named: a set is any number.
 -- Callers go by the laws of proofs/ and unfold nothing. Assumes nothing.
 use mathlib.Core.Bool.{Bool, true, false}
-use mathlib.Core.List.{List, [], _∷_, foldr}
+use mathlib.Core.List.{List, foldr}
 use Prim.Native.Nat.{ℕ, zero, suc, _+_, _-_, _*_, _/_, _%_, _^_}
 use lib.Dec.{ltb, eqb}
 use lib.Bits.{bitAnd, bitOr}
