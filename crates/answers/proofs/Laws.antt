@@ -99,6 +99,11 @@ order-stop check (suc n) i k a l e f = pick (λ h. order-stop check n i k a h e 
     pick rest (inl h) = then-stop (inOrder check n) (check n) k a (rest h)
     pick rest (inr s) = then-go (inOrder check n) (check n) (ap (inOrder check) (sym s) ∙ e) ∙ ap check (sym s) ∙ f
 
+-- two checks that both refuse: the first stands
+pub first-stands : inOrder (λ i. refused (suc i) 0) 2 ≡ refused 1 0
+unfolding inOrder _then_
+first-stands = refl
+
 -- ---- what is said
 
 pub say-accepted : (v : Verdict) (n : ℕ) → v ≡ accepted → sayOf v n ≡ counts n

@@ -9,12 +9,12 @@ use Rattle.answers.specs.Verdict.{Verdict, accepted, refused}
 use Rattle.sets.specs.Lists.{_∈_, all}
 use Rattle.sets.proofs.Tests.{never as clash, and-left, and-right}
 use Rattle.sets.proofs.ListLaws.{all-of}
-use Rattle.percolation.specs.Percolate.{Community, shown, listingBytes}
+use Rattle.percolation.specs.Percolate.{overlap, joinedBy, Community, shown, listingBytes}
 use Rattle.percolation.specs.Links.{Link, link, listing, slots, family, maximals}
 use Rattle.percolation.specs.Levels.{Meeting, met, never, meeting}
 use Rattle.percolation.specs.Steps.{insertAnswers}
 use Rattle.percolation.specs.Tree.{Line, line, tree, treeBytes}
-use Rattle.percolation.specs.Examples.{Asked, lists, meets, needs, gets, grows, Row, Says, RowHolds, table, sheet1, sheet8, sheet9, sheet10}
+use Rattle.percolation.specs.Examples.{Asked, lists, meets, needs, gets, grows, Row, Says, RowHolds, table, sheet1, sheet5, sheet8, sheet9, sheet10}
 
 -- ---- the test
 
@@ -147,3 +147,12 @@ pub refusals : insertAnswers 3 3 10 []
     ≡ refused 6 0 ∷ refused 6 0 ∷ refused 7 0 ∷ accepted ∷ refused 8 0 ∷ accepted ∷ refused 9 0 ∷ accepted ∷ []
 unfolding insertAnswers
 refusals = refl
+
+-- maximal cliques that share fewer than k - 1 parts are apart: P5 and P10 by the maximal-clique run
+pub apart5 : joinedBy (overlap 3) (maximals sheet5 5 3) 7 28 ≡ false
+unfolding joinedBy overlap maximals
+apart5 = refl
+
+pub apart10 : joinedBy (overlap 4) (maximals sheet10 6 4) 15 60 ≡ false
+unfolding joinedBy overlap maximals
+apart10 = refl
