@@ -6,12 +6,12 @@ use Prim.Native.Nat.{ℕ, suc, _≤_, _<_}
 use native.Mathlib.Omega.{arith}
 use lib.Dec.{eqb, leb, ltb, leb·zero}
 use lib.ListN.{length}
-use borrow.Author.Tests.{ltb-true, ltb-false, lt-ltb, le-ltb, leb-true, le-leb, eqb-true, eqb-false, eq-eqb, ne-eqb}
+use borrow.Author.Tests.{ltb-true, ltb-false, lt-ltb, le-ltb, leb-true, le-leb, eqb-true, eqb-false, eq-eqb, ne-eqb, not-true}
 use Rattle.answers.specs.Verdict.{Verdict, accepted, refused, _then_, unless, passes}
 use Rattle.answers.proofs.Laws.{last-go, then-left, then-right, then-both, unless-passed}
 use Rattle.sets.specs.Lists.{_∈_, any, all, eachTwo}
 use Rattle.sets.specs.Sets.{size, members, setsOf}
-use Rattle.sets.proofs.Tests.{never, iff, and-intro, and-left, and-right, not-true, not-false}
+use Rattle.sets.proofs.Tests.{never, iff, and-intro, and-left, and-right, false-not}
 use Rattle.sets.proofs.ListLaws.{no-member, all-of, all-not, all-more, keep-of, eachTwo-more, eachTwo-later, eachTwo-some}
 use Rattle.sets.proofs.Members.{members-length, sets-of}
 use Rattle.percolation.specs.Links.{Link, joins, linked, clique, cliques, slotSets, slots}
@@ -73,9 +73,9 @@ module _ (p : ℕ) (L : List Link) (l : Link) (a : ℕ) where
   unfolding checkLink
   check-passes g w r n =
       let v6 = last-go (goodParts p l) 6 a g in
-      let v7 = last-go (not (eqb (l .weight) 0)) 7 a (not-false (eqb (l .weight) 0) (ne-eqb (l .weight) 0 (λ e. omega arith))) in
-      let v8 = last-go (not (rises L l)) 8 a (not-false (rises L l) r) in
-      let v9 = last-go (not (linked L (l .low) (l .high))) 9 a (not-false (linked L (l .low) (l .high)) n) in
+      let v7 = last-go (not (eqb (l .weight) 0)) 7 a (false-not (eqb (l .weight) 0) (ne-eqb (l .weight) 0 (λ e. omega arith))) in
+      let v8 = last-go (not (rises L l)) 8 a (false-not (rises L l) r) in
+      let v9 = last-go (not (linked L (l .low) (l .high))) 9 a (false-not (linked L (l .low) (l .high)) n) in
       then-both (unless (goodParts p l) 6 a) from7 v6
       (then-both (unless (not (eqb (l .weight) 0)) 7 a) from8 v7 (then-both (unless (not (rises L l)) 8 a) from9 v8 v9))
 
@@ -167,7 +167,7 @@ module _ (p : ℕ) (L : List Link) (l : Link) (a : ℕ) where
   legal-more ok e =
       let fit = and-intro (goodParts p l) (leb 1 (l .weight)) (check-parts p L l a e) (le-leb 1 (l .weight) (check-weight p L l a e)) in
       let low = not-above L l (legal-falls p L ok) (check-fall p L l a e) in
-      let new = new-apart L l ∙ not-false (linked L (l .low) (l .high)) (check-new p L l a e) in
+      let new = new-apart L l ∙ false-not (linked L (l .low) (l .high)) (check-new p L l a e) in
       legal-from p (L ++ (l ∷ [])) (all-more (fits p) L l ∙ and-intro (all (fits p) L) (fits p l) (legal-fits p L ok) fit)
       (eachTwo-more falls L l ∙ and-intro (eachTwo falls L) (all (λ m. falls m l) L) (legal-falls p L ok) low)
       (eachTwo-more apart L l ∙ and-intro (eachTwo apart L) (all (λ m. apart m l) L) (legal-apart p L ok) new)

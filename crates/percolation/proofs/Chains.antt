@@ -5,8 +5,9 @@ use mathlib.Core.Bool.{Bool, true, false, not, _&&_}
 use mathlib.Core.List.{List, [], _∷_, flatten, List·Memᴰ·head, List·Memᴰ·tail, List·Memᴰ·not-nil, List·Memᴰ·cases-cons}
 use Prim.Native.Nat.{ℕ}
 use lib.Dec.{eqb}
+use borrow.Author.Tests.{not-true}
 use Rattle.sets.specs.Lists.{_∈_, any, keep}
-use Rattle.sets.proofs.Tests.{never, split, iff, and-intro, and-left, and-right, not-true, not-false}
+use Rattle.sets.proofs.Tests.{never, split, iff, and-intro, and-left, and-right, false-not}
 use Rattle.sets.proofs.ListLaws.{Holds, any-at, any-of, elem-at, elem-of, keep-at, keep-of, flat-at, flat-of}
 use Rattle.sets.proofs.Laws.{meet-comm}
 use Rattle.percolation.specs.Percolate.{adjacent, overlap, Chain, alone, next, touches, takeIn, classes, joinedBy, joined}
@@ -97,7 +98,7 @@ module _ (R : ℕ → ℕ → Bool) (both : Symmetric R) where
       where
         into : (c : List ℕ) → c ∈ C → x ∈ c → (touches R m c ≡ true) ⊎ (touches R m c ≡ false) → (d : List ℕ) × d ∈ takeIn R m C × x ∈ d
         into c p q (inl t) = (_, List·Memᴰ·head refl, List·Memᴰ·tail (flat-at (keep (touches R m) C) (keep-at (touches R m) C p t) q))
-        into c p q (inr t) = (c, List·Memᴰ·tail (keep-at (λ d. not (touches R m d)) C p (not-false (touches R m c) t)), q)
+        into c p q (inr t) = (c, List·Memᴰ·tail (keep-at (λ d. not (touches R m d)) C p (false-not (touches R m c) t)), q)
 
         go : (x ≡ m) ⊎ x ∈ F → (c : List ℕ) × c ∈ takeIn R m C × x ∈ c
         go (inl e) = (_, List·Memᴰ·head refl, List·Memᴰ·head e)

@@ -4,9 +4,10 @@ use mathlib.Core.Path.{_≡_, refl, sym, ap, ap₂, _∙_, subst}
 use mathlib.Core.Bool.{true, false, _&&_}
 use mathlib.Core.List.{List, [], _∷_, map, List·Memᴰ·head, List·Memᴰ·tail, List·Memᴰ·not-nil, Memᴰ·map, Memᴰ·of-map, Memᴰ·cast}
 use Prim.Native.Nat.{ℕ}
+use borrow.Author.Tests.{not-true}
 use Rattle.sets.specs.Lists.{_∈_, any, keep, sorted}
 use Rattle.sets.specs.Sets.{has, before}
-use Rattle.sets.proofs.Tests.{never, not-so, and-intro, and-left, and-right, not-true, not-false}
+use Rattle.sets.proofs.Tests.{never, not-so, and-intro, and-left, and-right, false-not}
 use Rattle.sets.proofs.ListLaws.{Holds, Rising, any-at, any-of, keep-at, keep-of, keep-rising, first-least, rising-same, sorted-of, sorted-at, sorted-rising}
 use Rattle.sets.proofs.Members.{union-part, union-has, union-same}
 use Rattle.sets.proofs.Order.{set-order}
@@ -60,7 +61,7 @@ module _ (k : ℕ) (F : List ℕ) where
 
   smallest-at : (m : ℕ) → ((b : ℕ) → Chain (adjacent k) F m b → before b m ≡ false) → smallest k F m ≡ true
   unfolding smallest
-  smallest-at m h = not-false (any (λ z. before z m && joined k F m z) F) (not-so (any (λ z. before z m && joined k F m z) F) (λ t.
+  smallest-at m h = false-not (any (λ z. before z m && joined k F m z) F) (not-so (any (λ z. before z m && joined k F m z) F) (λ t.
       let r = any-of (λ z. before z m && joined k F m z) F t in
       never (before (r .0) m) (and-left (before (r .0) m) (joined k F m (r .0)) (r .2))
       (h (r .0) (joined-chain k F m (r .0) (and-right (before (r .0) m) (joined k F m (r .0)) (r .2))))))

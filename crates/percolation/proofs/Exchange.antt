@@ -9,7 +9,7 @@ use lib.Dec.{eqb}
 use borrow.Author.Tests.{eqb-false}
 use Rattle.sets.specs.Lists.{_∈_}
 use Rattle.sets.specs.Sets.{has, meet, into, out, size, sub}
-use Rattle.sets.proofs.Tests.{never, split, lt-or-le}
+use Rattle.sets.proofs.Tests.{never, split, lt-or-le, not-so}
 use Rattle.sets.proofs.Laws.{sub-has, has-sub, sub-trans, out-sub, into-has, meet-comm, sub-size}
 use Rattle.sets.proofs.Parts.{same-parts, meet-in, meet-l, meet-r, into-keeps, into-cases, into-within, out-keeps, out-part, outside, same-set, size-more, size-less}
 use Rattle.percolation.specs.Percolate.{adjacent, Chain, alone, next}
@@ -54,18 +54,10 @@ exchange k a b A sa sb ia ib h = (
     c = into x r
 
     rx : has x r ≡ false
-    rx = pick (split (has x r))
-      where
-        pick : (has x r ≡ true) ⊎ (has x r ≡ false) → has x r ≡ false
-        pick (inl t) = never (has x a) (out-part y x a t) (o .2)
-        pick (inr t) = t
+    rx = not-so (has x r) (λ t. never (has x a) (out-part y x a t) (o .2))
 
     mx : has x (meet a b) ≡ false
-    mx = pick (split (has x (meet a b)))
-      where
-        pick : (has x (meet a b) ≡ true) ⊎ (has x (meet a b) ≡ false) → has x (meet a b) ≡ false
-        pick (inl t) = never (has x a) (meet-l x a b t) (o .2)
-        pick (inr t) = t
+    mx = not-so (has x (meet a b)) (λ t. never (has x a) (meet-l x a b t) (o .2))
 
     -- a and c share a without y
     shared : meet a c ≡ r

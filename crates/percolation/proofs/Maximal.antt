@@ -7,10 +7,10 @@ use mathlib.Core.List.{List}
 use Prim.Native.Nat.{ℕ, zero, suc, _+_, _-_, _≤_, _<_}
 use native.Mathlib.Omega.{arith}
 use lib.Dec.{leb}
-use borrow.Author.Tests.{eqb-true, leb-true, le-leb}
+use borrow.Author.Tests.{eqb-true, leb-true, le-leb, not-true}
 use Rattle.sets.specs.Lists.{_∈_, any, all, keep, below}
 use Rattle.sets.specs.Sets.{has, meet, into, size, sub, before, lows, members, unionOf, setsOf}
-use Rattle.sets.proofs.Tests.{split, and-intro, and-left, and-right, not-true, not-false}
+use Rattle.sets.proofs.Tests.{split, and-intro, and-left, and-right, false-not}
 use Rattle.sets.proofs.ListLaws.{any-of, all-at, all-of, keep-at, keep-of, below-of, not-before}
 use Rattle.sets.proofs.Laws.{sub-has, sub-refl, sub-trans, sub-size, size-le}
 use Rattle.sets.proofs.Members.{member-in, in-member, union-part, union-has, sets-of, union-same}
@@ -37,7 +37,7 @@ module _ (L : List Link) (p : ℕ) where
   pub extends-at : (s q : ℕ) → has q s ≡ false → ((r : ℕ) → r < p → has r s ≡ true → linked L q r ≡ true) → extends L p s q ≡ true
   unfolding extends
   extends-at s q n h =
-      and-intro (not (has q s)) (all (linked L q) (members p s)) (not-false (has q s) n)
+      and-intro (not (has q s)) (all (linked L q) (members p s)) (false-not (has q s) n)
       (all-at (linked L q) (members p s) (λ r m. let g = in-member p s r m in h r (g .0) (g .1)))
 
   -- the clique with that part is a clique
@@ -88,7 +88,7 @@ module _ (L : List Link) (p k : ℕ) where
       keep-at (λ s. leb k (size s) && (clique L p s && not (any (extends L p s) (below p)))) (setsOf p) (in-sets p A (h .clique .fits))
       (and-intro (leb k (size A)) (clique L p A && not (any (extends L p A) (below p))) (le-leb k (size A) (h .sized))
       (and-intro (clique L p A) (not (any (extends L p A) (below p)))
-      (clique-at L p A (λ q r l b x y. h .clique .each q r (λ e. omega arith) x y)) (not-false (any (extends L p A) (below p)) (h .closed))))
+      (clique-at L p A (λ q r l b x y. h .clique .each q r (λ e. omega arith) x y)) (false-not (any (extends L p A) (below p)) (h .closed))))
 
   -- a clique of k parts or more lies in a maximal one: it is one, or a part extends it
   extend : (n s : ℕ) → p < size s + n → k ≤ size s → Clique L p (size s) s → (B : ℕ) × B ∈ maximals L p k × (sub s B ≡ true)

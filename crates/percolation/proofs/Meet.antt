@@ -10,6 +10,7 @@ use Rattle.sets.specs.Lists.{_∈_, any, keep}
 use Rattle.sets.specs.Sets.{has, size}
 use Rattle.sets.proofs.Tests.{and-intro, and-left, and-right, lt-or-le}
 use Rattle.sets.proofs.ListLaws.{any-at, any-of, keep-at, keep-of, eachTwo-once}
+use Rattle.sets.proofs.Parts.{another}
 use Rattle.percolation.specs.Percolate.{adjacent, Chain, alone}
 use Rattle.percolation.specs.Links.{Link, heavy, joins, linked, cliques, family}
 use Rattle.percolation.specs.Levels.{Meeting, met, never, levels, joinedAt, meeting, weightOf}
@@ -18,7 +19,6 @@ use Rattle.percolation.proofs.Accepted.{good-parts, legal-parts, legal-
 use Rattle.percolation.proofs.Chains.{adjacent-sym, first-in, chain-trans, chain-sym, joined-chain, chain-joined}
 use Rattle.percolation.proofs.Families.{Clique, cliques-of, cliques-at, joins-ends, chain-lower}
 use Rattle.percolation.proofs.Levels.{heavy-of, heavy-at, levels-of, levels-at, largest-met, largest-never, nearest, Nearest, raise-links}
-use Rattle.percolation.proofs.Same.{another}
 
 -- the definition as it is read
 pub record MeetsAt (L : List Link) (p k a b w : ℕ) : Type 0 where

@@ -1,19 +1,15 @@
 -- Families, listings, slots and meetings depend on the set of links alone: not on the order of links, nor on a larger part count.
 -- Assumes nothing.
-use mathlib.Core.Path.{_≡_, refl, sym, ap, ap₂, _∙_}
+use mathlib.Core.Path.{_≡_, refl, ap, ap₂, _∙_}
 use mathlib.Core.Logic.{_⊎_, inl, inr}
 use mathlib.Core.Bool.{true}
 use mathlib.Core.List.{List, [], _∷_, _++_}
 use Prim.Native.Nat.{ℕ, suc, _+_, _≤_, _<_}
 use lib.ListN.{length}
 use native.Mathlib.Omega.{arith}
-use borrow.Author.Tests.{eq-eqb}
 use Rattle.sets.specs.Lists.{_∈_, keep}
-use Rattle.sets.specs.Sets.{has, one, size}
-use Rattle.sets.proofs.Tests.{never}
 use Rattle.sets.proofs.ListLaws.{Holds, any-of, keep-same}
-use Rattle.sets.proofs.Laws.{has-one, size-one, size-meet-l}
-use Rattle.sets.proofs.Parts.{outside}
+use Rattle.sets.proofs.Parts.{another}
 use Rattle.percolation.specs.Percolate.{Community}
 use Rattle.percolation.specs.Links.{Link, heavy, joins, linked, cliques, family, listing, slots}
 use Rattle.percolation.specs.Levels.{levels, joinedAt, largest, meeting}
@@ -46,12 +42,6 @@ linked-below p L h q r t = let f = any-of (joins q r) L t in go (f .0) (h (f .0)
     go : (e : Link) → (e .low < p) × (e .high < p) → ((e .low ≡ q) × (e .high ≡ r)) ⊎ ((e .low ≡ r) × (e .high ≡ q)) → q < p
     go e b (inl s) = omega (arith, b .0, s .0)
     go e b (inr s) = omega (arith, b .1, s .1)
-
--- a set of two parts or more has another part than q
-pub another : (q s : ℕ) → 2 ≤ size s → (r : ℕ) × (has r s ≡ true) × (q ≡ r → ⊥)
-another q s h =
-    let o = outside (one q) s (omega (arith, size-meet-l (one q) s, size-one q)) in
-    (o .0, o .1, λ e. never (has (o .0) (one q)) (has-one (o .0) q ∙ eq-eqb (o .0) q (sym e)) (o .2))
 
 module _ (p r k : ℕ) (two : 2 ≤ k) where
   -- the cliques of the same links, whatever the part count above their parts

@@ -164,10 +164,10 @@ has-lt w q n h e = go (lt-or-le q w)
 pub none : (n : ℕ) → ((q : ℕ) → has q n ≡ true → ⊥) → n ≡ 0
 none n f = ext n 0 (λ q. not-so (has q n) (f q) ∙ sym (has-empty q))
 
-pub below-of : (w n : ℕ) → ((q : ℕ) → has q n ≡ true → q < w) → n < 2 ^ w
-below-of zero n f = omega (arith, none n (λ q e. not-suc-le-zero (f q e)))
-below-of (suc w) n f =
-    dbl-lt w n (below-of w (n / 2) (λ q e. let l : suc q < suc w = f (suc q) (has-suc q n ∙ e) in omega arith))
+pub parts-lt : (w n : ℕ) → ((q : ℕ) → has q n ≡ true → q < w) → n < 2 ^ w
+parts-lt zero n f = omega (arith, none n (λ q e. not-suc-le-zero (f q e)))
+parts-lt (suc w) n f =
+    dbl-lt w n (parts-lt w (n / 2) (λ q e. let l : suc q < suc w = f (suc q) (has-suc q n ∙ e) in omega arith))
 
 pub meet-lt : (w a b : ℕ) → a < 2 ^ w → meet a b < 2 ^ w
 unfolding meet

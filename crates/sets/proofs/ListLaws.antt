@@ -7,9 +7,9 @@ use Prim.Native.Nat.{ℕ, zero, suc, _+_, _≤_, _<_}
 use native.Mathlib.Omega.{arith}
 use lib.Dec.{ltb, eqb}
 use lib.ListN.{length}
-use borrow.Author.Tests.{ltb-true, ltb-false, lt-ltb, le-ltb, eq-eqb, eqb-true}
+use borrow.Author.Tests.{ltb-true, ltb-false, lt-ltb, le-ltb, eq-eqb, eqb-true, not-true}
 use Rattle.sets.specs.Lists.{_∈_, any, all, keep, eachTwo, placed, sorted, from, below}
-use Rattle.sets.proofs.Tests.{never, split, and-intro, and-left, and-right, or-left, or-right, or-cases, not-true, lt-or-le}
+use Rattle.sets.proofs.Tests.{never, split, and-intro, and-left, and-right, or-left, or-right, or-cases, lt-or-le, not-so}
 
 -- l has each member of m
 abbrev pub Holds : {A : Type 0} → List A → List A → Type 0
@@ -31,11 +31,7 @@ module _ {A : Type 0} where
       go (inr s) rest = let r = rest s in (r .0, List·Memᴰ·tail (r .1), r .2)
 
   pub any-none : (f : A → Bool) (l : List A) → any f l ≡ false → {x : A} → x ∈ l → f x ≡ false
-  any-none f l e {x} m = go (split (f x))
-    where
-      go : (f x ≡ true) ⊎ (f x ≡ false) → f x ≡ false
-      go (inl t) = never (any f l) (any-at f l m t) e
-      go (inr t) = t
+  any-none f l e {x} m = not-so (f x) (λ t. never (any f l) (any-at f l m t) e)
 
   pub all-at : (f : A → Bool) (l : List A) → ((x : A) → x ∈ l → f x ≡ true) → all f l ≡ true
   unfolding all
@@ -211,12 +207,8 @@ module _ {A : Type 0} (first : A → A → Bool) where
       go (inr e) s = rw (keep-no f x l e) s
 
   module _ (order : Order first) where
-    asym : (x y : A) → first x y ≡ true → first y x ≡ false
-    asym x y e = go (split (first y x))
-      where
-        go : (first y x ≡ true) ⊎ (first y x ≡ false) → first y x ≡ false
-        go (inl h) = never (first x x) (order .trans x y x e h) (order .irrefl x)
-        go (inr h) = h
+    pub asym : (x y : A) → first x y ≡ true → first y x ≡ false
+    asym x y e = not-so (first y x) (λ h. never (first x x) (order .trans x y x e h) (order .irrefl x))
 
     -- z is not before y, nor y before x: nor is z before x
     pub not-before : (x y z : A) → first y x ≡ false → first z y ≡ false → first z x ≡ false

@@ -21,10 +21,6 @@ pub before-total : (a b : ℕ) → before a b ≡ false → before b a ≡ false
 unfolding before
 before-total a b p q = omega (arith, ltb-false a b p, ltb-false b a q)
 
-pub before-asym : (a b : ℕ) → before a b ≡ true → before b a ≡ false
-unfolding before
-before-asym a b p = le-ltb b a (omega (arith, ltb-true a b p))
-
 -- for whoever needs no more than these three
 pub set-order : Order before
 set-order = record { irrefl = before-irrefl; trans = before-trans; total = before-total }

@@ -5,11 +5,11 @@ use mathlib.Core.Path.{_≡_, refl, sym, ap, _∙_}
 use mathlib.Core.Logic.{_⊎_, inl, inr}
 use Prim.Native.Nat.{ℕ, zero, suc, _≤_, _<_}
 use native.Mathlib.Omega.{arith}
-use borrow.Author.Tests.{eqb-true, eqb-false, ne-eqb}
+use borrow.Author.Tests.{eqb-true, eqb-false, ne-eqb, not-true, eq-eqb}
 use lib.Dec.{eqb}
-use Rattle.sets.specs.Sets.{has, meet, union, minus, into, out, size, sub, lowest, lows}
-use Rattle.sets.proofs.Tests.{never, split, iff, and-intro, and-left, and-right, or-left, or-right, or-cases, not-true}
-use Rattle.sets.proofs.Laws.{has-meet, has-union, has-minus, has-into, has-out, ext, meet-comm, size-minus, size-empty, size-into, size-out, sub-has, has-sub, sub-size, sub-same, sub-trans, into-has}
+use Rattle.sets.specs.Sets.{has, meet, union, minus, into, out, size, sub, lowest, lows, one}
+use Rattle.sets.proofs.Tests.{never, iff, and-intro, and-left, and-right, or-left, or-right, or-cases, not-so}
+use Rattle.sets.proofs.Laws.{has-meet, has-union, has-minus, has-into, has-out, ext, meet-comm, size-minus, size-empty, size-into, size-out, sub-has, has-sub, sub-size, sub-same, sub-trans, into-has, has-one, size-one}
 use Rattle.sets.proofs.Members.{lowest-has}
 use Rattle.sets.proofs.LowParts.{lows-size, lows-sub}
 
@@ -54,6 +54,25 @@ union-r q a b h = has-union q a b ∙ or-right (has q a) (has q b) h
 pub union-cases : (q a b : ℕ) → has q (union a b) ≡ true → (has q a ≡ true) ⊎ (has q b ≡ true)
 union-cases q a b h = or-cases (has q a) (has q b) (sym (has-union q a b) ∙ h)
 
+pub union-assoc : (a b c : ℕ) → union (union a b) c ≡ union a (union b c)
+union-assoc a b c = same-parts (union (union a b) c) (union a (union b c)) (λ q h. to q (union-cases q (union a b) c h)) (λ q h. fro q (union-cases q a (union b c) h))
+  where
+    left : (q : ℕ) → (has q a ≡ true) ⊎ (has q b ≡ true) → has q (union a (union b c)) ≡ true
+    left q (inl x) = union-l q a (union b c) x
+    left q (inr x) = union-r q a (union b c) (union-l q b c x)
+
+    to : (q : ℕ) → (has q (union a b) ≡ true) ⊎ (has q c ≡ true) → has q (union a (union b c)) ≡ true
+    to q (inl x) = left q (union-cases q a b x)
+    to q (inr x) = union-r q a (union b c) (union-r q b c x)
+
+    right : (q : ℕ) → (has q b ≡ true) ⊎ (has q c ≡ true) → has q (union (union a b) c) ≡ true
+    right q (inl x) = union-l q (union a b) c (union-r q a b x)
+    right q (inr x) = union-r q (union a b) c x
+
+    fro : (q : ℕ) → (has q a ≡ true) ⊎ (has q (union b c) ≡ true) → has q (union (union a b) c) ≡ true
+    fro q (inl x) = union-l q (union a b) c (union-l q a b x)
+    fro q (inr x) = right q (union-cases q b c x)
+
 -- ---- one part more, one part less
 
 pub into-keeps : (q r s : ℕ) → has r s ≡ true → has r (into q s) ≡ true
@@ -76,11 +95,7 @@ pub out-other : (q r s : ℕ) → has r (out q s) ≡ true → r ≡ q → ⊥
 out-other q r s h = eqb-false r q (not-true (eqb r q) (and-right (has r s) (not (eqb r q)) (sym (has-out r q s) ∙ h)))
 
 pub out-lacks : (q s : ℕ) → has q (out q s) ≡ false
-out-lacks q s = go (split (has q (out q s)))
-  where
-    go : (has q (out q s) ≡ true) ⊎ (has q (out q s) ≡ false) → has q (out q s) ≡ false
-    go (inl h) = absurd (out-other q q s h refl)
-    go (inr h) = h
+out-lacks q s = not-so (has q (out q s)) (λ h. out-other q q s h refl)
 
 pub into-sub : (q s : ℕ) → sub s (into q s) ≡ true
 into-sub q s = has-sub s (into q s) (λ r. into-keeps q r s)
@@ -157,9 +172,16 @@ with-part (suc k) q A h l t =
     (into q c, omega (arith, size-more q c (lacks c (s .2)), s .1), into-within q c A t (sub-trans c (out q A) A (s .2) (has-sub (out q A) A (λ r. out-part q r A))), into-has q c)
   where
     lacks : (c : ℕ) → sub c (out q A) ≡ true → has q c ≡ false
-    lacks c i = go (split (has q c))
-      where
-        go : (has q c ≡ true) ⊎ (has q c ≡ false) → has q c ≡ false
-        go (inl x) = never (has q (out q A)) (sub-has q c (out q A) i x) (out-lacks q A)
-        go (inr x) = x
+    lacks c i = not-so (has q c) (λ x. never (has q (out q A)) (sub-has q c (out q A) i x) (out-lacks q A))
 with-part zero q A h l t = absurd (omega arith)
+
+-- a subset that lacks a part has fewer
+pub sub-less : (q a b : ℕ) → sub a b ≡ true → has q b ≡ true → has q a ≡ false → size a < size b
+sub-less q a b i h n =
+    omega (arith, size-more q a n, sub-size (into q a) b (into-within q a b h i))
+
+-- a set of two parts or more has another part than q
+pub another : (q s : ℕ) → 2 ≤ size s → (r : ℕ) × (has r s ≡ true) × (q ≡ r → ⊥)
+another q s h =
+    let o = outside (one q) s (omega (arith, sub-size (meet (one q) s) (one q) (meet-sub-l (one q) s), size-one q)) in
+    (o .0, o .1, λ e. never (has (o .0) (one q)) (has-one (o .0) q ∙ eq-eqb (o .0) q (sym e)) (o .2))

@@ -53,12 +53,8 @@ pub or-cases : (x y : Bool) → x || y ≡ true → (x ≡ true) ⊎ (y ≡ true
 or-cases true y e = inl refl
 or-cases false y e = inr e
 
-pub not-true : (x : Bool) → not x ≡ true → x ≡ false
-not-true true e = sym e
-not-true false e = refl
-
-pub not-false : (x : Bool) → x ≡ false → not x ≡ true
-not-false x e = ap not e
+pub false-not : (x : Bool) → x ≡ false → not x ≡ true
+false-not x e = ap not e
 
 pub and-absorb : (x y : Bool) → (x ≡ true → y ≡ true) → x && y ≡ x
 and-absorb true y f = f refl
