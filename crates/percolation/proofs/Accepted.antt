@@ -1,18 +1,19 @@
--- What a link that passes 6 to 9 satisfies, legal lists of links, and the accepted links of a list of inserts. Assumes nothing.
+-- What a link that passes 6 to 9 satisfies, legal lists of links and how long they are, and the accepted links of a list of inserts. Assumes nothing.
 use mathlib.Core.Path.{_≡_, refl, sym, ap, ap₂, _∙_, fun-ext}
 use mathlib.Core.Bool.{Bool, true, false, cond, not, _&&_, _||_, and-comm}
-use mathlib.Core.List.{List, [], _∷_, _++_, List·Memᴰ·not-nil}
-use Prim.Native.Nat.{ℕ, suc, _≤_, _<_}
+use mathlib.Core.List.{List, [], _∷_, _++_, map, List·Memᴰ·head, List·Memᴰ·tail, List·Memᴰ·not-nil, Memᴰ·of-map}
+use Prim.Native.Nat.{ℕ, zero, suc, _+_, _*_, _/_, _%_, _≤_, _<_}
 use native.Mathlib.Omega.{arith}
+use native.Mathlib.Nat.{suc-mul, mul-le-mul-right, mod-eq-of-lt, div-eq-of-lt, mul-add-mod-self-right, mul-add-div-right}
 use lib.Dec.{eqb, leb, ltb, leb·zero}
-use lib.ListN.{length}
+use lib.ListN.{length, length-map}
 use borrow.Author.Tests.{ltb-true, ltb-false, lt-ltb, le-ltb, leb-true, le-leb, eqb-true, eqb-false, eq-eqb, ne-eqb, not-true}
-use Rattle.answers.specs.Verdict.{Verdict, accepted, refused, _then_, unless, passes}
+use Rattle.answers.specs.Verdict.{Verdict, accepted, refused, _then_, unless, inOrder, passes}
 use Rattle.answers.proofs.Laws.{last-go, then-left, then-right, then-both, unless-passed}
-use Rattle.sets.specs.Lists.{_∈_, any, all, eachTwo}
+use Rattle.sets.specs.Lists.{_∈_, any, all, eachTwo, below}
 use Rattle.sets.specs.Sets.{size, members, setsOf}
-use Rattle.sets.proofs.Tests.{never, iff, and-intro, and-left, and-right, false-not}
-use Rattle.sets.proofs.ListLaws.{no-member, all-of, all-not, all-more, keep-of, eachTwo-more, eachTwo-later, eachTwo-some}
+use Rattle.sets.proofs.Tests.{never, iff, and-intro, and-left, and-right, or-left, false-not}
+use Rattle.sets.proofs.ListLaws.{Holds, Distinct, distinct-le, below-at, below-length, no-member, all-of, all-not, all-more, keep-of, eachTwo-more, eachTwo-later, eachTwo-some}
 use Rattle.sets.proofs.Members.{members-length, sets-of}
 use Rattle.percolation.specs.Links.{Link, joins, linked, clique, cliques, slotSets, slots}
 use Rattle.percolation.proofs.SlotCount.{slot-of}
@@ -273,3 +274,81 @@ module _ (p k n : ℕ) where
   unfolding insertAnswers acceptedLinks
   answers-append L [] Y = refl
   answers-append L (x ∷ X) Y = ap (λ (r : List Verdict). checkInsert p k n L x ∷ r) (answers-append (accept p k n L x) X Y)
+
+-- ---- a legal list has at most p * p links
+
+-- one number for each pair, below p * p
+abbrev pairOf : ℕ → Link → ℕ
+pairOf p l = l .low * p + l .high
+
+pair-below : (p : ℕ) (l : Link) → goodParts p l ≡ true → pairOf p l < p * p
+pair-below p l t =
+    let g = good-parts p l t in
+    let low : suc (l .low) ≤ p = omega arith in
+    omega (arith, mul-le-mul-right p low, suc-mul (l .low) p)
+
+pair-low : (p a b : ℕ) → b < p → (a * p + b) / p ≡ a
+pair-low p a b h = let pos : 0 < p = omega arith in omega (arith, mul-add-div-right pos a b, div-eq-of-lt h)
+
+pair-high : (p a b : ℕ) → b < p → (a * p + b) % p ≡ b
+pair-high p a b h = mul-add-mod-self-right a p b ∙ mod-eq-of-lt h
+
+pair-same : (p : ℕ) (l m : Link) → l .high < p → m .high < p → pairOf p l ≡ pairOf p m → joins (l .low) (l .high) m ≡ true
+unfolding joins
+pair-same p l m h g e =
+    let low : m .low ≡ l .low = sym (pair-low p (m .low) (m .high) g) ∙ ap (λ (n : ℕ). n / p) (sym e) ∙ pair-low p (l .low) (l .high) h in
+    let high : m .high ≡ l .high = sym (pair-high p (m .low) (m .high) g) ∙ ap (λ (n : ℕ). n % p) (sym e) ∙ pair-high p (l .low) (l .high) h in
+    or-left (eqb (m .low) (l .low) && eqb (m .high) (l .high)) _
+    (and-intro (eqb (m .low) (l .low)) (eqb (m .high) (l .high)) (eq-eqb (m .low) (l .low) low) (eq-eqb (m .high) (l .high) high))
+
+pairs-distinct : (p : ℕ) (L : List Link) → all (fits p) L ≡ true → eachTwo apart L ≡ true → Distinct (map (pairOf p) L)
+unfolding all eachTwo Distinct
+pairs-distinct p [] f a = tt
+pairs-distinct p (l ∷ L) f a = (fresh, pairs-distinct p L (and-right (fits p l) (all (fits p) L) f) (and-right (all (apart l) L) (eachTwo apart L) a))
+  where
+    high : (m : Link) → m ∈ (l ∷ L) → m .high < p
+    high m i = good-parts p m (and-left (goodParts p m) (leb 1 (m .weight)) (all-of (fits p) (l ∷ L) f i)) .1
+
+    fresh : pairOf p l ∈ map (pairOf p) L → ⊥
+    fresh i =
+        let r = Memᴰ·of-map (pairOf p) L i in
+        let t = pair-same p l (r .0) (high l (List·Memᴰ·head refl)) (high (r .0) (List·Memᴰ·tail (r .1))) (sym (r .2)) in
+        let n = all-of (apart l) L (and-left (all (apart l) L) (eachTwo apart L) a) (r .1) in
+        never (joins (l .low) (l .high) (r .0)) t (not-true (joins (l .low) (l .high) (r .0)) n)
+
+pub legal-few : (p : ℕ) (L : List Link) → legal p L ≡ true → length L ≤ p * p
+legal-few p L ok =
+    omega (
+      arith,
+      distinct-le (map (pairOf p) L) (below (p * p)) (pairs-distinct p L (legal-fits p L ok) (legal-apart p L ok)) inside,
+      length-map L (pairOf p),
+      below-length (p * p),
+    )
+  where
+    inside : Holds (below (p * p)) (map (pairOf p) L)
+    inside x i =
+        let r = Memᴰ·of-map (pairOf p) L i in
+        let b = pair-below p (r .0) (legal-parts p L ok (r .0) (r .1)) in
+        below-at x (p * p) (omega (arith, r .2))
+
+-- ---- links one after the other: f 0, f 1, .. where `before j` are those before f j
+
+module _ (p : ℕ) (f : ℕ → Link) (before : ℕ → List Link) (none : before 0 ≡ []) (more : (j : ℕ) → before (suc j) ≡ before j ++ (f j ∷ []))
+    (place : ℕ → ℕ) where
+  abbrev check : ℕ → Verdict
+  check j = checkLink p (before j) (f j) (place j)
+
+  -- if each passes they are legal, and the other way, whatever the places
+  pub legal-checks : (m : ℕ) → inOrder (λ j. checkLink p (before j) (f j) (place j)) m ≡ accepted → legal p (before m) ≡ true
+  unfolding inOrder
+  legal-checks zero e = ap (legal p) none ∙ legal-none p
+  legal-checks (suc m) e =
+      ap (legal p) (more m)
+      ∙ legal-more p (before m) (f m) (place m) (legal-checks m (then-left (inOrder check m) (check m) e)) (then-right (inOrder check m) (check m) e)
+
+  pub checks-legal : (m : ℕ) → legal p (before m) ≡ true → inOrder (λ j. checkLink p (before j) (f j) (place j)) m ≡ accepted
+  unfolding inOrder
+  checks-legal zero ok = refl
+  checks-legal (suc m) ok =
+      let r = legal-init p (before m) (f m) (place m) (ap (legal p) (sym (more m)) ∙ ok) in
+      then-both (inOrder check m) (check m) (checks-legal m (r .0)) (r .1)

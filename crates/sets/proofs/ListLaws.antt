@@ -6,7 +6,7 @@ use mathlib.Core.List.{List, [], _∷_, _++_, map, flatten, List·Memᴰ·head, 
 use Prim.Native.Nat.{ℕ, zero, suc, _+_, _≤_, _<_}
 use native.Mathlib.Omega.{arith}
 use lib.Dec.{ltb, eqb}
-use lib.ListN.{length}
+use lib.ListN.{length, getD}
 use borrow.Author.Tests.{ltb-true, ltb-false, lt-ltb, le-ltb, eq-eqb, eqb-true, not-true}
 use Rattle.sets.specs.Lists.{_∈_, any, all, keep, eachTwo, placed, sorted, from, below}
 use Rattle.sets.proofs.Tests.{never, split, and-intro, and-left, and-right, or-left, or-right, or-cases, lt-or-le, not-so}
@@ -497,6 +497,15 @@ pub below-rising : (n : ℕ) → Rising ltb (below n)
 unfolding below
 below-rising n = from-rising 0 n
 
+from-length : (i n : ℕ) → length (from i n) ≡ n
+unfolding from
+from-length i zero = refl
+from-length i (suc n) = ap suc (from-length (suc i) n)
+
+pub below-length : (n : ℕ) → length (below n) ≡ n
+unfolding below
+below-length n = from-length 0 n
+
 -- ---- each two of a rising list of numbers
 
 pub eachTwo-of : (f : ℕ → ℕ → Bool) (l : List ℕ) → Rising ltb l → eachTwo f l ≡ true → (q r : ℕ) → q ∈ l → r ∈ l → q < r → f q r ≡ true
@@ -517,3 +526,46 @@ eachTwo-at f [] ri h = refl
 eachTwo-at f (x ∷ l) ri h =
     and-intro (all (f x) l) (eachTwo f l) (all-at (f x) l (λ y m. h x y (List·Memᴰ·head refl) (List·Memᴰ·tail m) (ltb-true x y (ri .0 y m))))
     (eachTwo-at f l (ri .1) (λ q r m n. h q r (List·Memᴰ·tail m) (List·Memᴰ·tail n)))
+
+-- ---- what is read of a list
+
+-- inside a list what is read does not turn on what stands for an element past its end
+pub getD-in : (xs : List ℕ) (i d e : ℕ) → i < length xs → getD xs i d ≡ getD xs i e
+getD-in [] i d e h = absurd (omega arith)
+getD-in (x ∷ xs) zero d e h = refl
+getD-in (x ∷ xs) (suc i) d e h = getD-in xs i d e (omega arith)
+
+-- ---- map and keep
+
+pub map-append : {A B : Type 0} (f : A → B) (l m : List A) → map f (l ++ m) ≡ map f l ++ map f m
+map-append f [] m = refl
+map-append f (x ∷ l) m = ap (λ (t : List _). f x ∷ t) (map-append f l m)
+
+pub map-same : {A B : Type 0} (f g : A → B) (l : List A) → ((x : A) → f x ≡ g x) → map f l ≡ map g l
+map-same f g [] h = refl
+map-same f g (x ∷ l) h = ap₂ _∷_ (h x) (map-same f g l h)
+
+module _ {A : Type 0} (f : A → Bool) where
+  pub keep-append : (l m : List A) → keep f (l ++ m) ≡ keep f l ++ keep f m
+  unfolding keep
+  keep-append [] m = refl
+  keep-append (x ∷ l) m = go (split (f x)) (keep-append l m)
+    where
+      go : (f x ≡ true) ⊎ (f x ≡ false) → keep f (l ++ m) ≡ keep f l ++ keep f m → keep f (x ∷ (l ++ m)) ≡ keep f (x ∷ l) ++ keep f m
+      go (inl e) ih = keep-yes f x (l ++ m) e ∙ ap (λ (t : List A). x ∷ t) ih ∙ ap (λ (t : List A). t ++ keep f m) (sym (keep-yes f x l e))
+      go (inr e) ih = keep-no f x (l ++ m) e ∙ ih ∙ ap (λ (t : List A). t ++ keep f m) (sym (keep-no f x l e))
+
+  pub keep-map : {B : Type 0} (g : B → A) (l : List B) → keep f (map g l) ≡ map g (keep (λ x. f (g x)) l)
+  unfolding keep
+  keep-map g [] = refl
+  keep-map {B} g (x ∷ l) = go (split (f (g x))) (keep-map g l)
+    where
+      go : (f (g x) ≡ true) ⊎ (f (g x) ≡ false) → keep f (map g l) ≡ map g (keep (λ y. f (g y)) l)
+          → keep f (g x ∷ map g l) ≡ map g (keep (λ y. f (g y)) (x ∷ l))
+      go (inl e) ih = keep-yes f (g x) (map g l) e ∙ ap (λ (t : List A). g x ∷ t) ih ∙ ap (map g) (sym (keep-yes (λ y. f (g y)) x l e))
+      go (inr e) ih = keep-no f (g x) (map g l) e ∙ ih ∙ ap (map g) (sym (keep-no (λ y. f (g y)) x l e))
+
+-- a rising list without its first
+pub rising-rest : {A : Type 0} (first : A → A → Bool) (x : A) (l : List A) → Rising first (x ∷ l) → Rising first l
+unfolding Rising
+rising-rest first x l r = r .1

@@ -1,23 +1,25 @@
 -- The lowest part of a set, its parts in rising order, the sets of parts below p, and the union of a list of sets. Any width.
 -- Assumes nothing.
-use mathlib.Core.Bool.{Bool, true, false, cond, true≢false}
-use mathlib.Core.List.{List, [], _∷_, List·Memᴰ·head, List·Memᴰ·tail}
+use mathlib.Core.Bool.{Bool, true, false, not, _&&_, cond, true≢false}
+use mathlib.Core.List.{List, [], _∷_, List·Memᴰ·head, List·Memᴰ·tail, List·Memᴰ·cases-cons}
 use mathlib.Core.Path.{_≡_, refl, sym, ap, _∙_}
 use mathlib.Core.Logic.{_⊎_, inl, inr}
-use Prim.Native.Nat.{ℕ, zero, suc, _/_, _%_, _^_, _≤_, _<_}
+use Prim.Native.Nat.{ℕ, zero, suc, _-_, _/_, _%_, _^_, _≤_, _<_}
 use native.Mathlib.Decide.{le-ind}
-use borrow.Author.Tests.{eqb-false}
+use borrow.Author.Tests.{eqb-false, ne-eqb, lt-ltb, le-ltb, ltb-true, not-true}
 use lib.Dec.{eqb, ltb}
 use lib.Arith.{lt-one, bin-ind, half-le}
 use native.Mathlib.Nat.{le-refl, not-suc-le-zero, le-of-suc-le-suc}
 use native.Mathlib.Omega.{arith}
 use lib.ListN.{length}
+use lib.Pow.{pow-pos}
 use lib.Count.{trailingZeros, under, trailing-of-zero}
 use Rattle.sets.specs.Lists.{_∈_, keep, from, below}
-use Rattle.sets.specs.Sets.{bit, has, size, lowestIn, lowest, members, unionOf, setsOf}
-use Rattle.sets.proofs.Laws.{has-zero, has-suc, has-empty, has-union, ext, half-lt, size-step, size-empty}
-use Rattle.sets.proofs.Tests.{never, split, iff, or-left, or-right, or-cases, lt-or-le, eq-or-ne}
-use Rattle.sets.proofs.ListLaws.{Holds, Rising, Distinct, number-order, rising-distinct, keep-yes, keep-no, keep-at, keep-of, keep-rising, below-of, below-at, below-rising}
+use Rattle.sets.specs.Sets.{bit, has, out, size, lowestIn, lowest, members, unionOf, setsOf, full}
+use Rattle.sets.proofs.Laws.{has-zero, has-suc, has-empty, has-union, has-out, has-above, has-lt, ext, half-lt, size-step, size-empty}
+use Rattle.sets.proofs.OneWord.{has-not}
+use Rattle.sets.proofs.Tests.{never, split, iff, and-intro, and-left, and-right, or-left, or-right, or-cases, lt-or-le, eq-or-ne, same-or-not}
+use Rattle.sets.proofs.ListLaws.{Holds, Rising, Distinct, number-order, rising-distinct, rising-same, no-member, keep-yes, keep-no, keep-at, keep-of, keep-rising, below-of, below-at, below-rising}
 
 -- ---- the lowest member
 
@@ -190,3 +192,58 @@ union-same l m f g =
 -- the answer of the code's `lowest`, at a set that has members
 pub answer-has : (w n r : ℕ) → eqb n 0 ≡ false → r ≡ cond (eqb n 0) w (lowest n) → has r n ≡ true
 answer-has w n r p e = ap (λ (x : ℕ). has x n) (e ∙ ap (λ (t : Bool). cond t w (lowest n)) p) ∙ lowest-has n (eqb-false n 0 p)
+
+-- ---- the members, the lowest first
+
+pub members-none : (p : ℕ) → members p 0 ≡ []
+members-none p = no-member (members p 0) (λ q m. never (has q 0) (in-member p 0 q m .1) (has-empty q))
+
+pub members-next : (p s : ℕ) → (s ≡ 0 → ⊥) → s < 2 ^ p → members p s ≡ lowest s ∷ members p (out (lowest s) s)
+unfolding Rising
+members-next p s some fits =
+    rising-same ltb number-order (members p s) (lowest s ∷ members p (out (lowest s) s)) (members-rising p s)
+    ((λ q m. lt-ltb (lowest s) q (above q (other q (in-member p (out (lowest s) s) q m .1)))), members-rising p (out (lowest s) s))
+    (λ q m. let r = in-member p s q m in pick q r (same-or-not q (lowest s)))
+    (λ q m. back q (List·Memᴰ·cases-cons m))
+  where
+    other : (q : ℕ) → has q (out (lowest s) s) ≡ true → (has q s ≡ true) × (q ≡ lowest s → ⊥)
+    other q h =
+        let t : has q s && not (eqb q (lowest s)) ≡ true = sym (has-out q (lowest s) s) ∙ h in
+        (and-left (has q s) (not (eqb q (lowest s))) t, eqb-false q (lowest s) (not-true (eqb q (lowest s)) (and-right (has q s) (not (eqb q (lowest s))) t)))
+
+    above : (q : ℕ) → (has q s ≡ true) × (q ≡ lowest s → ⊥) → lowest s < q
+    above q h = go (lt-or-le q (lowest s)) (lt-or-le (lowest s) q)
+      where
+        go : (q < lowest s) ⊎ (lowest s ≤ q) → (lowest s < q) ⊎ (q ≤ lowest s) → lowest s < q
+        go (inl l) r = never (has q s) (h .0) (lowest-least s q l)
+        go (inr l) (inl r) = r
+        go (inr l) (inr r) = absurd (h .1 (omega arith))
+
+    pick : (q : ℕ) → (q < p) × (has q s ≡ true) → (q ≡ lowest s) ⊎ (q ≡ lowest s → ⊥) → q ∈ (lowest s ∷ members p (out (lowest s) s))
+    pick q r (inl e) = List·Memᴰ·head e
+    pick q r (inr n) =
+        List·Memᴰ·tail (member-in p (out (lowest s) s) q (r .0) (has-out q (lowest s) s ∙ and-intro (has q s) (not (eqb q (lowest s))) (r .1) (ap not (ne-eqb q (lowest s) n))))
+
+    back : (q : ℕ) → (q ≡ lowest s) ⊎ q ∈ members p (out (lowest s) s) → q ∈ members p s
+    back q (inl e) = let h : has q s ≡ true = ap (λ (x : ℕ). has x s) e ∙ lowest-has s some in member-in p s q (has-lt p q s fits h) h
+    back q (inr m) = let r = in-member p (out (lowest s) s) q m in member-in p s q (r .0) (other q (r .1) .0)
+
+-- ---- the set of all parts below p
+
+pub has-full : (q p : ℕ) → has q (full p) ≡ ltb q p
+unfolding full
+has-full q p = go (lt-or-le q p)
+  where
+    go : (q < p) ⊎ (p ≤ q) → has q (2 ^ p - 1) ≡ ltb q p
+    go (inl h) = let e : 2 ^ p - 1 ≡ 2 ^ p - 1 - 0 = omega arith in ap (has q) e ∙ has-not p q 0 (pow-pos p) h ∙ ap not (has-empty q) ∙ sym (lt-ltb q p h)
+    go (inr h) = has-above p q (2 ^ p - 1) (omega (arith, pow-pos p)) h ∙ sym (le-ltb q p h)
+
+-- its parts are the numbers below p, at any width that holds them
+pub members-within : (w p : ℕ) → p ≤ w → members w (full p) ≡ below p
+members-within w p h =
+    rising-same ltb number-order (members w (full p)) (below p) (members-rising w (full p)) (below-rising p)
+    (λ q m. below-at q p (ltb-true q p (sym (has-full q p) ∙ in-member w (full p) q m .1)))
+    (λ q m. let l : q < p = below-of p m in member-in w (full p) q (omega arith) (has-full q p ∙ lt-ltb q p l))
+
+pub members-full : (p : ℕ) → members p (full p) ≡ below p
+members-full p = members-within p p (le-refl p)

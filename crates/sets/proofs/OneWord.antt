@@ -2,20 +2,29 @@
 -- Assumes nothing.
 use mathlib.Core.Bool.{Bool, not, _&&_}
 use mathlib.Core.Path.{_≡_, refl, sym, ap, _∙_}
-use Prim.Native.Nat.{ℕ, zero, suc, _-_, _*_, _/_, _%_, _^_, _<_}
+use Prim.Native.Nat.{ℕ, zero, suc, _-_, _*_, _/_, _%_, _^_, _≤_, _<_, min}
 use native.Mathlib.Nat.{pow-suc, one-mul, mod-eq-of-lt, le-of-suc-le-suc, not-suc-le-zero}
 use native.Mathlib.Omega.{arith}
 use borrow.Author.Tests.{eq-eqb}
 use lib.Dec.{eqb}
 use lib.Pow.{pow-pos, pow-lt}
 use lib.Bits.{bitAnd, and-mask}
-use Rattle.sets.specs.Sets.{bit, has, one, meet, minus}
+use Rattle.sets.specs.Sets.{bit, has, one, meet, minus, full}
 use Rattle.sets.proofs.Laws.{has-meet, has-minus, ext-below, meet-lt, minus-lt, has-zero, has-suc}
 
 -- `1 << q`
 pub shift-one : (w q : ℕ) → q < w → (1 * 2 ^ q) % 2 ^ w ≡ one q
 unfolding one
 shift-one w q h = ap (λ (x : ℕ). x % 2 ^ w) (one-mul (2 ^ q)) ∙ mod-eq-of-lt (pow-lt h)
+
+-- `(1 << p) - 1`, and all digits of the word
+pub shift-full : (w p : ℕ) → p < w → (1 * 2 ^ p) % 2 ^ w - 1 ≡ full (min p w)
+unfolding full one
+shift-full w p h = let e : p ≡ min p w = omega arith in ap (λ (x : ℕ). x - 1) (shift-one w p h) ∙ ap (λ (x : ℕ). 2 ^ x - 1) e
+
+pub word-full : (w p : ℕ) → w ≤ p → 2 ^ w - 1 ≡ full (min p w)
+unfolding full
+word-full w p h = let e : w ≡ min p w = omega arith in ap (λ (x : ℕ). 2 ^ x - 1) e
 
 bit-eqb : (x : ℕ) → x < 2 → eqb x 1 ≡ bit x
 bit-eqb zero h = refl

@@ -1,6 +1,6 @@
 -- Set operations by their parts: who is in a meet, a union, a set with one part more or less, and what lies inside what. Any width.
 -- Assumes nothing.
-use mathlib.Core.Bool.{Bool, true, false, not}
+use mathlib.Core.Bool.{Bool, true, false, not, _||_, or-assoc}
 use mathlib.Core.Path.{_≡_, refl, sym, ap, _∙_}
 use mathlib.Core.Logic.{_⊎_, inl, inr}
 use Prim.Native.Nat.{ℕ, zero, suc, _≤_, _<_}
@@ -185,3 +185,10 @@ pub another : (q s : ℕ) → 2 ≤ size s → (r : ℕ) × (has r s ≡ true) �
 another q s h =
     let o = outside (one q) s (omega (arith, sub-size (meet (one q) s) (one q) (meet-sub-l (one q) s), size-one q)) in
     (o .0, o .1, λ e. never (has (o .0) (one q)) (has-one (o .0) q ∙ eq-eqb (o .0) q (sym e)) (o .2))
+
+-- two parts put into a set
+pub union-two : (a b c : ℕ) → union c (into b (one a)) ≡ into b (into a c)
+union-two a b c =
+    ext (union c (into b (one a))) (into b (into a c)) (λ q.
+    has-union q c (into b (one a)) ∙ ap (λ (x : Bool). has q c || x) (has-into q b (one a) ∙ ap (λ (x : Bool). x || eqb q b) (has-one q a))
+    ∙ sym (has-into q b (into a c) ∙ ap (λ (x : Bool). x || eqb q b) (has-into q a c) ∙ or-assoc (has q c) (eqb q a) (eqb q b)))

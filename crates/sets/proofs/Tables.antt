@@ -7,7 +7,7 @@ use native.Mathlib.Nat.{not-suc-le-zero, le-of-suc-le-suc}
 use native.Mathlib.Omega.{arith}
 use lib.ListN.{length, getD, set, replicate, length-set, length-replicate, getD-replicate, List·getD-eq-default}
 use lib.Seq.{getD-set-same, getD-set-other, ext-getD}
-use Rattle.sets.specs.Value.{width, rows, row, store}
+use Rattle.sets.specs.Value.{width, rows, row, store, noRows}
 use Rattle.sets.proofs.Tests.{lt-or-le}
 
 pub set-past : (xs : List ℕ) (i v : ℕ) → length xs ≤ i → set xs i v ≡ xs
@@ -54,3 +54,18 @@ row-clear n i = go (lt-or-le i n)
     go : (i < n) ⊎ (n ≤ i) → getD (replicate {A = ℕ} n 0) i 0 ≡ 0
     go (inl l) = getD-replicate n i 0 0 l
     go (inr l) = List·getD-eq-default (replicate n 0) 0 (omega (arith, length-replicate {A = ℕ} n 0))
+
+-- ---- a table with an empty row for each part
+
+pub rows-none : rows noRows ≡ width
+unfolding rows noRows
+rows-none = length-replicate {A = ℕ} width 0
+
+-- as many words as the code's array has
+pub length-none : length noRows ≡ 64
+unfolding noRows
+length-none = length-replicate {A = ℕ} width 0
+
+pub row-none : (i : ℕ) → row noRows i ≡ 0
+unfolding noRows
+row-none i = row-clear width i

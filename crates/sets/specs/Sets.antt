@@ -21,6 +21,10 @@ has q s = bit (s / 2 ^ q % 2)
 unfoldable pub one : ℕ → ℕ
 one q = 2 ^ q
 
+-- the set of all parts below p
+unfoldable pub full : ℕ → ℕ
+full p = 2 ^ p - 1
+
 -- the common parts, and the parts of either
 unfoldable pub meet : ℕ → ℕ → ℕ
 meet s t = bitAnd s t

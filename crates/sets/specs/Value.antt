@@ -2,7 +2,7 @@
 -- No other file says how many words a set has. Assumes nothing.
 use mathlib.Core.List.{List, [], _∷_}
 use Prim.Native.Nat.{ℕ, zero, suc, _/_, _%_, _^_}
-use lib.ListN.{length, getD, set}
+use lib.ListN.{length, getD, set, replicate}
 use Rattle.sets.specs.declared.Set.{Set}
 
 -- how many parts a set of the code can hold
@@ -21,6 +21,10 @@ row xs i = getD xs i 0
 
 unfoldable pub store : List ℕ → ℕ → ℕ → List ℕ
 store xs i n = set xs i n
+
+-- a table with an empty row for each part
+unfoldable pub noRows : List ℕ
+noRows = replicate width 0
 
 -- n bytes of x, high byte first
 unfoldable pub bytes : ℕ → ℕ → List ℕ

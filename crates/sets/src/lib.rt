@@ -4,8 +4,9 @@ ghost use mathlib.Core.Path.{_≡_};
 ghost use mathlib.Core.Bool.{cond};
 ghost use lib.Dec.{ltb, eqb};
 ghost use lib.ListN.{length, replicate};
-ghost use Rattle.sets.specs.Sets.{has, one, meet, union, minus, into, out, size, sub, before, lowest, lows};
-ghost use Rattle.sets.specs.Value.{width, num, rows, row, store};
+ghost use Prim.Native.Nat.{min};
+ghost use Rattle.sets.specs.Sets.{has, one, meet, union, minus, into, out, size, sub, before, lowest, lows, full};
+ghost use Rattle.sets.specs.Value.{width, num, rows, row, store, noRows};
 
 // Its word is nobody else's to see: a wider set changes this crate alone.
 pub struct Set {
@@ -27,6 +28,19 @@ pub fn single(q: usize) -> Set
         Set { word: bit }
     } else {
         Set { word: 0 }
+    }
+}
+
+// All parts below p; all that a set can hold where p is more.
+pub fn upto(p: usize) -> Set
+    ensures { λ r. ⌜ num r ≡ full (min p width) ⌝ }
+{
+    if p < 64 {
+        let bit: u64 = 1 << p;
+        let word: u64 = bit - 1;
+        Set { word }
+    } else {
+        Set { word: !0 }
     }
 }
 
@@ -151,6 +165,13 @@ pub fn word(s: Set) -> u64
     ensures { λ r. ⌜ r ≡ num s ⌝ }
 {
     s.word
+}
+
+// A table with a row for each part, all empty.
+pub fn no_rows() -> [u64; 64]
+    ensures { λ r. ⌜ r ≡ noRows ⌝ }
+{
+    [0u64; 64]
 }
 
 // How many sets a table holds.

@@ -77,9 +77,24 @@ fn table() {
     end();
 }
 
+// A table with an empty row for each part.
+fn none() {
+    let rows = sets::no_rows();
+    io::write_all(STDOUT_FILENO, b"none ");
+    count(sets::rows(&rows));
+    set(sets::at(&rows, 63));
+    end();
+}
+
 fn main() {
     set(sets::empty());
+    set(sets::upto(0));
+    set(sets::upto(5));
+    set(sets::upto(63));
+    set(sets::upto(64));
+    set(sets::upto(1000));
     end();
+    none();
     pair(7, 14);
     pair(14, 7);
     pair(7, 7);

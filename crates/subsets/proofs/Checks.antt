@@ -9,8 +9,8 @@ use Rattle.answers.specs.Verdict.{unless}
 use Rattle.answers.specs.Answers.{counts, refuses, sayOf}
 use Rattle.answers.proofs.Laws.{stop, go, last-stop, last-go, say-accepted, say-refused}
 use Rattle.sets.proofs.Tests.{no-and}
-use Rattle.percolation.specs.Ranges.{inRange, goodCount, goodK}
-use Rattle.percolation.proofs.Ranges.{range-high}
+use Rattle.percolation.specs.Ranges.{goodCount, goodK}
+use Rattle.percolation.proofs.Ranges.{good-count, good-k}
 use Rattle.subsets.specs.Subsets.{subsetCount, tableCount, slotBound, checkBound}
 
 -- ---- the table
@@ -38,25 +38,23 @@ unfolding slotBound
 bound-in p k h = rw (le-leb k p h) refl
 
 -- the table's answer is the bound
-pub bound-at : (p k : ℕ) → inRange 1 64 p ≡ true → inRange 2 6 k ≡ true → k ≤ p → tableCount p (k - 1) ≡ slotBound p k
+pub bound-at : (p k : ℕ) → goodCount p ≡ true → goodK k ≡ true → k ≤ p → tableCount p (k - 1) ≡ slotBound p k
 bound-at p k e f h =
-    let l : p ≤ 64 = range-high 1 64 p e in
-    let m : k ≤ 6 = range-high 2 6 k f in
-    in-table p (k - 1) l (omega arith) ∙ sym (bound-in p k h)
+    in-table p (k - 1) (good-count p e .1) (omega (arith, good-k k f .1)) ∙ sym (bound-in p k h)
 
 module _ (p k n : ℕ) where
-  pub says-four : inRange 1 64 p ≡ false → refuses 4 0 ≡ sayOf (checkBound p k) n
-  unfolding goodCount checkBound
+  pub says-four : goodCount p ≡ false → refuses 4 0 ≡ sayOf (checkBound p k) n
+  unfolding checkBound
   says-four e = sym (say-refused (checkBound p k) n 4 0 (stop (goodCount p) 4 0 (unless (goodK k) 10 0) e))
 
-  module _ (e : inRange 1 64 p ≡ true) where
-    pub says-ten : inRange 2 6 k ≡ false → refuses 10 0 ≡ sayOf (checkBound p k) n
-    unfolding goodCount goodK checkBound
+  module _ (e : goodCount p ≡ true) where
+    pub says-ten : goodK k ≡ false → refuses 10 0 ≡ sayOf (checkBound p k) n
+    unfolding checkBound
     says-ten f =
         sym (say-refused (checkBound p k) n 10 0 (go (goodCount p) 4 0 (unless (goodK k) 10 0) e ∙ last-stop (goodK k) 10 0 f))
 
-    pub says-count : inRange 2 6 k ≡ true → (b : ℕ) → b ≡ n → counts b ≡ sayOf (checkBound p k) n
-    unfolding goodCount goodK checkBound
+    pub says-count : goodK k ≡ true → (b : ℕ) → b ≡ n → counts b ≡ sayOf (checkBound p k) n
+    unfolding checkBound
     says-count f b s =
         ap counts s
         ∙ sym (say-accepted (checkBound p k) n (go (goodCount p) 4 0 (unless (goodK k) 10 0) e ∙ last-go (goodK k) 10 0 f))

@@ -1,7 +1,6 @@
 // C(n, r), the number of r-part subsets of n parts, and the slot bound. The table stands at the end.
 ghost use mathlib.Core.Path.{_≡_};
 ghost use Rattle.answers.specs.Answers.{says, sayOf};
-ghost use Rattle.percolation.specs.Ranges.{inRange};
 ghost use Rattle.subsets.specs.Subsets.{tableCount, slotBound, checkBound};
 use answers::Answer;
 
@@ -25,21 +24,14 @@ pub fn subset_count(n: usize, r: usize) -> usize
     wide(COUNTS[n * 7 + r])
 }
 
-// x is from a to b.
-fn within(x: usize, a: usize, b: usize) -> bool
-    ensures { λ t. ⌜ t ≡ inRange a b x ⌝ }
-{
-    a <= x && x <= b
-}
-
 // The slots that suffice for p parts and k: C(p, k-1) if p is at least k, else 0.
 pub fn slot_bound(p: usize, k: usize) -> Answer
     ensures { λ r. ⌜ says r ≡ sayOf (checkBound p k) (slotBound p k) ⌝ }
 {
-    if !within(p, 1, 64) {
+    if !checks::good_count(p) {
         return Answer::Refused(4, 0);
     }
-    if !within(k, 2, 6) {
+    if !checks::good_k(k) {
         return Answer::Refused(10, 0);
     }
     if p < k {

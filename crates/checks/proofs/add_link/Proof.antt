@@ -1,0 +1,29 @@
+use mathlib.Core.Path.{ap, _∙_}
+use mathlib.Core.List.{List}
+use Prim.Native.Nat.{ℕ}
+use Rattle.checks.specs.Model.{withNeighbour, marked}
+use borrow.Author.Needs.{needs}
+use Rattle.checks.proofs.add_link.Statement.{statement}
+use Rattle.checks.proofs.add_link.Tie as tie
+
+-- src/lib.rt:60:5
+mark-requires : tie.Need-mark-requires
+mark-requires c κs = search needs
+
+-- src/lib.rt:61:5
+mark-requires-2 : tie.Need-mark-requires-2
+mark-requires-2 c κs = search needs
+
+-- src/lib.rt:57:1
+same-length : tie.Need-same-length
+same-length c = search needs
+
+-- src/lib.rt:57:1
+returns : tie.Need-returns
+unfolding marked
+returns c =
+    let a = c .before .before .before .before .before .before .before .before .before .args in
+    c .before .before .mark2 .ensures ∙ ap (λ (R : List ℕ). withNeighbour R (a .high) (a .low)) (c .before .before .before .before .before .before .mark .ensures)
+
+pub add-link-spec : {M : Type 1} → statement M
+add-link-spec = tie.close (tie.spec mark-requires mark-requires-2 same-length returns)
