@@ -1,0 +1,138 @@
+-- The round trips over what the calls promise: a sheet read and written again, and a network written and read again. Assumes nothing.
+use mathlib.Core.Path.{_≡_, refl, sym, ap, ap₂, _∙_, subst}
+use mathlib.Core.Bool.{true}
+use mathlib.Core.List.{List, _++_}
+use Prim.Native.Nat.{ℕ, _*_, _≤_}
+use native.Mathlib.Omega.{arith}
+use lib.Dec.{leb}
+use lib.ListN.{length, take, drop}
+use lib.Seq.{take-at, drop-at}
+use borrow.Author.Tests.{le-leb}
+use Rattle.answers.specs.declared.Answer.{Answer}
+use Rattle.answers.specs.Verdict.{Verdict, accepted, refused, written}
+use Rattle.answers.specs.Answers.{counts, says, sayOf}
+use Rattle.answers.proofs.Laws.{then-left, then-both, last-go, say-accepted, written-accepted}
+use Rattle.sheet.specs.declared.Checked.{Checked}
+use Rattle.sheet.specs.declared.Checked.the-variants.{Fine}
+use Rattle.sheet.specs.Sheet.{parts, links, checkSheet}
+use Rattle.sheet.specs.Network.{Network, network, networkOf, partsOf, linksIn, sheetOf, checkNetwork, checkWrite, roomFor, checkRead}
+use Rattle.sheet.specs.Answers.{holds, sheetSays, sheetSay, writtenNetwork}
+use Rattle.sheet.proofs.Sound.{network-few, sheet-length}
+use Rattle.sheet.proofs.Heading.{length-is}
+use Rattle.sheet.proofs.RoundTrip.{Bytes, Held, read-twin, write-twin, sheet-again, network-again}
+
+-- what `read` promises of the sheet s, the lent lists before and after, and its answer
+pub record Read (s : List ℕ) (old new : Network) (r : Checked) : Type 0 where
+  pub answer : sheetSays r ≡ sheetSay (checkRead s old) s
+  pub filled : new ≡ writtenNetwork (checkRead s old) (networkOf s) old
+
+-- what `write` promises of the network n, the lent bytes before and after, and its answer
+pub record Wrote (n : Network) (out out′ : List ℕ) (w : Answer) : Type 0 where
+  pub answer : says w ≡ sayOf (checkWrite n (length out)) (length (sheetOf n))
+  pub filled : out′ ≡ written (checkWrite n (length out)) (sheetOf n) out
+
+-- the first p names and m links of a lent network
+abbrev pub front : ℕ → ℕ → Network → Network
+front p m n = network (take (8 * p) (n .names)) (take m (n .lower)) (take m (n .higher)) (take m (n .weights))
+
+-- l stands in the first k of the list `new`, and the rest is as in `old`
+pub record Stands (k : ℕ) (l old new : List ℕ) : Type 0 where
+  pub first : take k new ≡ l
+  pub rest : drop k new ≡ drop k old
+
+-- so for the four lists of the network n
+pub record Filled (n old new : Network) : Type 0 where
+  pub names : Stands (length (n .names)) (n .names) (old .names) (new .names)
+  pub lower : Stands (linksIn n) (n .lower) (old .lower) (new .lower)
+  pub higher : Stands (linksIn n) (n .higher) (old .higher) (new .higher)
+  pub weights : Stands (linksIn n) (n .weights) (old .weights) (new .weights)
+
+-- ---- what an answer that is no refusal says
+
+read-accepted : (v : Verdict) (s : List ℕ) (p m : ℕ) → holds p m ≡ sheetSay v s → (v ≡ accepted) × (p ≡ parts s) × (m ≡ links s)
+unfolding sheetSay
+read-accepted accepted s p m e = (refl, cc, cc)
+read-accepted (refused n a) s p m e = let z : _≡_ {A = ℕ} 0 1 = cc in absurd (omega arith)
+
+write-accepted : (v : Verdict) (n c : ℕ) → sayOf v n ≡ counts c → (v ≡ accepted) × (c ≡ n)
+unfolding sayOf
+write-accepted accepted n c e = (refl, cc)
+write-accepted (refused k a) n c e = let z : _≡_ {A = ℕ} 0 1 = cc in absurd (omega arith)
+
+-- ---- what is written where the verdict is "accepted"
+
+stands : (v : Verdict) (k : ℕ) (l old new : List ℕ) → v ≡ accepted → length l ≡ k → new ≡ written v l old → Stands k l old new
+stands v k l old new a h e =
+    let f : new ≡ l ++ drop (length l) old = e ∙ written-accepted v l old a in
+    record {
+      first = ap (take k) f ∙ take-at l (drop (length l) old) k h;
+      rest = ap (drop k) f ∙ drop-at l (drop (length l) old) k h ∙ ap (λ (j : ℕ). drop j old) h;
+    }
+
+filled : (v : Verdict) (n old new : Network) → v ≡ accepted → checkNetwork n ≡ accepted → new ≡ writtenNetwork v n old → Filled n old new
+unfolding writtenNetwork
+filled v n old new a ok e =
+    let few = network-few n ok in
+    record {
+      names = stands v (length (n .names)) (n .names) (old .names) (new .names) a refl (ap (λ (x : Network). x .names) e);
+      lower = stands v (linksIn n) (n .lower) (old .lower) (new .lower) a refl (ap (λ (x : Network). x .lower) e);
+      higher = stands v (linksIn n) (n .higher) (old .higher) (new .higher) a (few .2) (ap (λ (x : Network). x .higher) e);
+      weights = stands v (linksIn n) (n .weights) (old .weights) (new .weights) a (few .3) (ap (λ (x : Network). x .weights) e);
+    }
+
+front-back : (n old new : Network) → checkNetwork n ≡ accepted → Filled n old new → front (partsOf n) (linksIn n) new ≡ n
+front-back n old new ok f =
+    let few = network-few n ok in
+    let k : 8 * partsOf n ≡ length (n .names) = omega arith in
+    let names = ap (λ (j : ℕ). take j (new .names)) k ∙ f .names .first in
+    ap₂ (λ (x y : List ℕ). network x y (take (linksIn n) (new .higher)) (take (linksIn n) (new .weights))) names (f .lower .first)
+    ∙ ap₂ (network (n .names) (n .lower)) (f .higher .first) (f .weights .first)
+
+-- what is accepted and has room is written, and read
+write-passes : (n : Network) (room : ℕ) → checkNetwork n ≡ accepted → length (sheetOf n) ≤ room → checkWrite n room ≡ accepted
+unfolding checkWrite
+write-passes n room ok h = then-both (checkNetwork n) _ ok (last-go (leb (length (sheetOf n)) room) 16 0 (le-leb (length (sheetOf n)) room h))
+
+read-passes : (s : List ℕ) (old : Network) → checkSheet s ≡ accepted → roomFor (parts s) (links s) old ≡ true → checkRead s old ≡ accepted
+unfolding checkRead
+read-passes s old ok h = then-both (checkSheet s) _ ok (last-go (roomFor (parts s) (links s) old) 16 0 h)
+
+-- ---- the round trips
+
+-- A sheet that `read` accepts, written again from the lists that it filled: the same bytes.
+pub read-write : (s : List ℕ) → Bytes s → (old new : Network) (r : Checked) (p m : ℕ) → Read s old new r → r ≡ Fine p m
+    → (out out′ : List ℕ) (w : Answer) → Wrote (front p m new) out out′ w → length s ≤ length out
+    → (says w ≡ counts (length s)) × (out′ ≡ s ++ drop (length s) out)
+unfolding checkRead
+read-write s b old new r p m d e out out′ w d′ room =
+    let a = read-accepted (checkRead s old) s p m (sym (ap sheetSays e) ∙ d .answer) in
+    let ok = then-left (checkSheet s) _ (a .0) in
+    let again = sheet-again s b ok in
+    let t = read-twin s (length-is s (sheet-length s ok)) in
+    let full = filled (checkRead s old) (networkOf s) old new (a .0) (again .0) (d .filled) in
+    let same = ap₂ (λ (x y : ℕ). front x y new) (a .1 ∙ t .count) (a .2 ∙ t .number) ∙ front-back (networkOf s) old new (again .0) full in
+    let g = subst (λ (n : Network). Wrote n out out′ w) same d′ in
+    let v = write-passes (networkOf s) (length out) (again .0) (omega (arith, ap length (again .1))) in (
+      g .answer ∙ say-accepted (checkWrite (networkOf s) (length out)) (length (sheetOf (networkOf s))) v ∙ ap (λ (l : List ℕ). counts (length l)) (again .1),
+      g .filled ∙ written-accepted (checkWrite (networkOf s) (length out)) (sheetOf (networkOf s)) out v
+          ∙ ap (λ (l : List ℕ). l ++ drop (length l) out) (again .1),
+    )
+
+-- A network that `write` accepts, read again from the bytes that it wrote into lists with room: the same lists.
+pub write-read : (n : Network) → Held n → (out out′ : List ℕ) (w : Answer) (c : ℕ) → Wrote n out out′ w → says w ≡ counts c
+    → (old new : Network) (r : Checked) → Read (take c out′) old new r → roomFor (partsOf n) (linksIn n) old ≡ true
+    → (sheetSays r ≡ holds (partsOf n) (linksIn n)) × Filled n old new
+unfolding checkWrite sheetSay
+write-read n held out out′ w c d e old new r d′ room =
+    let s = sheetOf n in
+    let a = write-accepted (checkWrite n (length out)) (length s) c (sym (d .answer) ∙ e) in
+    let ok = then-left (checkNetwork n) _ (a .0) in
+    let again = network-again n held ok in
+    let t = write-twin n held ok in
+    let bytes = d .filled ∙ written-accepted (checkWrite n (length out)) s out (a .0) in
+    let back = ap (take c) bytes ∙ take-at s (drop (length s) out) c (sym (a .1)) in
+    let g = subst (λ (x : List ℕ). Read x old new r) back d′ in
+    let v = read-passes s old (again .0) (ap₂ (λ (p m : ℕ). roomFor p m old) (t .count) (t .number) ∙ room) in (
+      g .answer ∙ ap (λ (x : Verdict). sheetSay x s) v ∙ ap₂ holds (t .count) (t .number),
+      filled (checkRead s old) n old new v ok (g .filled ∙ ap (λ (x : Network). writtenNetwork (checkRead s old) x old) (again .1)),
+    )

@@ -1,0 +1,82 @@
+use mathlib.Core.Path.{sym, ap, _∙_}
+use native.Mathlib.Omega.{arith}
+use borrow.Author.Needs.{needs}
+use Prim.Native.Nat.{ℕ, _+_, _-_}
+use mathlib.Core.List.{_++_}
+use lib.ListN.{length, drop}
+use borrow.Author.Tests.{le-leb, lt-leb}
+use lib.Dec.{leb}
+use Rattle.answers.specs.Answers.{counts}
+use Rattle.answers.proofs.Laws.{then-stop, then-go, last-go, last-stop, say-accepted, say-refused, written-refused, written-accepted}
+use Rattle.sheet.specs.Network.{network, checkWrite, sheetOf}
+use Rattle.sheet.specs.Answers.{verdict}
+use Rattle.sheet.proofs.Shape.{sheet-size}
+use Rattle.sheet.proofs.Sound.{network-few}
+use Rattle.sheet.proofs.write.Statement.{statement}
+use Rattle.sheet.proofs.write.Tie as tie
+
+check-network-requires : tie.Need-check-network-requires
+check-network-requires c κs = search needs
+
+enum-known-n : tie.Need-enum-known-n
+enum-known-n c = search needs
+
+enum-told : tie.Need-enum-told
+enum-told c = search needs
+
+add-size : tie.Need-add-size
+add-size c = search needs
+
+mul-size : tie.Need-mul-size
+mul-size c = search needs
+
+add-size-2 : tie.Need-add-size-2
+add-size-2 c = let w = network-few _ (sym (c .before .before .check-network .ensures) ∙ ap verdict (c .enum-told .given .1)) in omega (arith, w .0, w .1)
+
+returns : tie.Need-returns
+unfolding checkWrite
+returns c =
+    let a = c .before .before .before .before .before .before .before .before .before .args in
+    let n = network (a .names .now) (a .lower .now) (a .higher .now) (a .weights .now) in
+    let e = then-go _ _ (sym (c .before .before .before .check-network .ensures) ∙ ap verdict (c .before .enum-told .given .1)) ∙ last-stop _ _ _ (ap (λ (k : ℕ). leb k (length (a .out .now))) (sheet-size n) ∙ lt-leb _ _ (c .if1 .taken)) in
+    (sym (say-refused _ _ _ _ e), sym (written-refused _ _ _ _ _ e))
+
+put-sheet-requires : tie.Need-put-sheet-requires
+put-sheet-requires c κs =
+    let w = network-few _ (sym (c .before .before .before .before .check-network .ensures) ∙ ap verdict (c .before .before .enum-told .given .1)) in
+    ((w .2, w .3), c .before .if1 .left)
+
+returns-2 : tie.Need-returns-2
+unfolding checkWrite
+returns-2 c =
+    let e = then-stop _ _ _ _ (sym (c .before .before .before .check-network .ensures) ∙ ap verdict (c .before .n .given .1)) in
+    (sym (say-refused _ _ _ _ e), sym (written-refused _ _ _ _ _ e))
+
+same-length : tie.Need-same-length
+same-length c = search needs
+
+returns-3 : tie.Need-returns-3
+unfolding checkWrite
+returns-3 c =
+    let a = c .before .before .before .before .before .before .before .before .before .before .before .before .before .args in
+    let n = network (a .names .now) (a .lower .now) (a .higher .now) (a .weights .now) in
+    let e = then-go _ _ (sym (c .before .before .before .before .before .before .before .check-network .ensures) ∙ ap verdict (c .before .before .before .before .before .enum-told .given .1)) ∙ last-go _ _ _ (ap (λ (k : ℕ). leb k (length (a .out .now))) (sheet-size n) ∙ le-leb _ _ (c .before .before .before .before .if1 .left)) in (
+      ap counts (sym (sheet-size n)) ∙ sym (say-accepted _ _ e),
+      c .before .before .put-sheet .ensures ∙ ap (λ (k : ℕ). sheetOf n ++ drop k (a .out .now)) (sym (sheet-size n)) ∙ sym (written-accepted _ _ _ e),
+    )
+
+pub write-spec : {M : Type 1} → statement M
+write-spec =
+    tie.close
+    (tie.spec
+    check-network-requires
+    enum-known-n
+    enum-told
+    add-size
+    mul-size
+    add-size-2
+    returns
+    put-sheet-requires
+    returns-2
+    same-length
+    returns-3)

@@ -1,0 +1,67 @@
+-- What each case of the sheet's answers says in document 01's numbers and values, and what is right to say of a part's name. Assumes nothing.
+use mathlib.Core.List.{[], List}
+use Prim.Native.Nat.{ℕ, _+_}
+use lib.Dec.{ltb}
+use Rattle.answers.specs.Verdict.{Verdict, accepted, refused, _then_, unless, written}
+use Rattle.answers.specs.Answers.{Said, counts, refuses}
+use Rattle.sheet.specs.declared.Checked.{Checked}
+use Rattle.sheet.specs.declared.Checked.the-variants.{Fine, Faulty}
+use Rattle.sheet.specs.declared.LinkRow.{LinkRow}
+use Rattle.sheet.specs.declared.Found.{Found}
+use Rattle.sheet.specs.declared.Found.the-variants.{At, Missing}
+use Rattle.sheet.specs.declared.Tried.{Tried}
+use Rattle.sheet.specs.declared.Tried.the-variants.{Pass, Stop}
+use Rattle.percolation.specs.Links.{Link, link}
+use Rattle.sheet.specs.Sheet.{parts, links, nameAt, eightAt, checkSheet}
+use Rattle.sheet.specs.Network.{Network, network}
+
+-- a sheet's part count and link count, or a refusal
+pub data SheetSaid : Type 0 where
+  holds : ℕ → ℕ → SheetSaid
+  faulty : ℕ → ℕ → SheetSaid
+
+abbrev pub sheetSays : Checked → SheetSaid
+sheetSays (Fine p m) = holds p m
+sheetSays (Faulty n a) = faulty n a
+
+-- what is right to say of the sheet s where the verdict is v
+unfoldable pub sheetSay : Verdict → List ℕ → SheetSaid
+sheetSay accepted s = holds (parts s) (links s)
+sheetSay (refused n a) s = faulty n a
+
+-- a link as the code reads it
+abbrev pub linkRow : LinkRow → Link
+linkRow r = link (r .low) (r .high) (r .weight)
+
+-- one check on the way
+abbrev pub verdict : Tried → Verdict
+verdict Pass = accepted
+verdict (Stop n a) = refused n a
+
+-- a lent network after a call: each of its lists as `written` has it
+unfoldable pub writtenNetwork : Verdict → Network → Network → Network
+unfolding written
+writtenNetwork v n old =
+    network (written v (n .names) (old .names)) (written v (n .lower) (old .lower)) (written v (n .higher) (old .higher)) (written v (n .weights) (old .weights))
+
+-- ---- a part's name
+
+-- the sheet's own checks, then 14: a part not below p
+unfoldable pub checkPart : List ℕ → ℕ → Verdict
+unfolding checkSheet unless _then_
+checkPart s part = checkSheet s then unless (ltb part (parts s)) 14 0
+
+-- where the name starts, or a refusal
+abbrev pub foundSays : Found → Said
+foundSays (At a) = counts a
+foundSays (Missing n a) = refuses n a
+
+-- the eight bytes of a name, or none where it is refused
+unfoldable pub nameIn : Verdict → List ℕ → ℕ → List ℕ
+nameIn accepted s part = eightAt s (nameAt s part)
+nameIn (refused n a) s part = []
+
+-- where those bytes are, when the sheet is at p, a block and an offset in it: they are the very bytes of the caller's sheet
+unfoldable pub placeIn : Verdict → List ℕ → ℕ × ℕ → ℕ → ℕ × ℕ
+placeIn accepted s p part = (p .0, nameAt s part + p .1)
+placeIn (refused n a) s p part = p
