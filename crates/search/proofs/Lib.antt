@@ -1,0 +1,9 @@
+pub mod AllTaken
+pub mod Cliques
+pub mod Inserted
+pub mod NewCliques
+pub mod Peeled
+pub mod RowLinks
+pub mod SlotTally
+pub mod Tally
+pub mod Turn
