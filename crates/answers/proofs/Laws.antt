@@ -115,6 +115,16 @@ pub say-refused : (v : Verdict) (n k a : ℕ) → v ≡ refused k a → sayOf v 
 unfolding sayOf
 say-refused v n k a e = ap (λ (w : Verdict). sayOf w n) e
 
+pub said-count : (v : Verdict) (k a : ℕ) → counts a ≡ sayOf v k → (v ≡ accepted) × (a ≡ k)
+unfolding sayOf
+said-count accepted k a e = (refl, cc)
+said-count (refused n b) k a e = let z : _≡_ {A = ℕ} 0 1 = cc in absurd (omega arith)
+
+pub said-refused : (v : Verdict) (k n a : ℕ) → refuses n a ≡ sayOf v k → v ≡ refused n a
+unfolding sayOf
+said-refused accepted k n a e = let z : _≡_ {A = ℕ} 0 1 = cc in absurd (omega arith)
+said-refused (refused m b) k n a e = cc
+
 -- ---- lent space: a refusal writes nothing, an answer its own bytes and no more
 
 pub written-refused : (v : Verdict) (answer old : List ℕ) (n a : ℕ) → v ≡ refused n a → written v answer old ≡ old

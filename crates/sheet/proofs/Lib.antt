@@ -1,5 +1,5 @@
 pub mod Again
-pub mod Branches
+pub mod Examples
 pub mod Form
 pub mod Heading
 pub mod InBytes

@@ -6,12 +6,8 @@ use Rattle.answers.specs.Verdict.{Verdict, accepted, refused, _then_, unless, w
 use Rattle.answers.specs.Answers.{Said, counts, refuses}
 use Rattle.sheet.specs.declared.Checked.{Checked}
 use Rattle.sheet.specs.declared.Checked.the-variants.{Fine, Faulty}
-use Rattle.sheet.specs.declared.LinkRow.{LinkRow}
 use Rattle.sheet.specs.declared.Found.{Found}
 use Rattle.sheet.specs.declared.Found.the-variants.{At, Missing}
-use Rattle.sheet.specs.declared.Tried.{Tried}
-use Rattle.sheet.specs.declared.Tried.the-variants.{Pass, Stop}
-use Rattle.percolation.specs.Links.{Link, link}
 use Rattle.sheet.specs.Sheet.{parts, links, nameAt, eightAt, checkSheet}
 use Rattle.sheet.specs.Network.{Network, network}
 
@@ -28,15 +24,6 @@ sheetSays (Faulty n a) = faulty n a
 unfoldable pub sheetSay : Verdict → List ℕ → SheetSaid
 sheetSay accepted s = holds (parts s) (links s)
 sheetSay (refused n a) s = faulty n a
-
--- a link as the code reads it
-abbrev pub linkRow : LinkRow → Link
-linkRow r = link (r .low) (r .high) (r .weight)
-
--- one check on the way
-abbrev pub verdict : Tried → Verdict
-verdict Pass = accepted
-verdict (Stop n a) = refused n a
 
 -- a lent network after a call: each of its lists as `written` has it
 unfoldable pub writtenNetwork : Verdict → Network → Network → Network

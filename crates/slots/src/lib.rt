@@ -106,7 +106,7 @@ fn merge_union(table: &mut [u64], lo: usize, hi: usize)
 
 // Makes the classes of slots i and j one, whatever the slots hold: the lower root stays one, and gets the lesser smallest clique and the union of
 // both.
-pub fn join(entries: &mut [u32], smallest: &mut [u64], unions: &mut [u64], i: usize, j: usize)
+fn join(entries: &mut [u32], smallest: &mut [u64], unions: &mut [u64], i: usize, j: usize)
     requires { ⌜ (i < length (now entries)) × (j < length (now entries)) × (i < 2 ^ 32) ⌝ }
     ensures { λ _. ⌜ ((s : List ℕ) (n : ℕ) → tables s (now (entries .exit)) (now (smallest .exit)) (now (unions .exit)) n ≡ joined (tables s (now (entries .entry)) (now (smallest .entry)) (now (unions .entry)) n) i j) ⌝ }
 {
@@ -128,7 +128,7 @@ pub fn room(entries: &[u32]) -> usize
 
 // A slot for s, a part of the clique q, where i is what find says of s: the one that holds it, else a new one, of a class of its own, where
 // there is room. Gives how many slots are used then.
-pub fn place(
+fn place(
     sets: &mut [u64],
     entries: &mut [u32],
     smallest: &mut [u64],
@@ -247,7 +247,7 @@ fn touch(
 }
 
 // The tables with the clique q: its sub-cliques in slots, those slots one class, and q among the cliques of that class. Gives how many slots
-// are used then. That no more are used than there is room for is what the steps' checks 11 and 12 show.
+// are used then. For sister crates: that no more are used than there is room for is what the steps' checks 11 and 12 show.
 pub fn take_in(
     sets: &mut [u64],
     entries: &mut [u32],

@@ -5,7 +5,7 @@ use Prim.Native.Nat.{_-_}
 use Rattle.answers.specs.Verdict.{inOrder}
 use Rattle.percolation.proofs.Ranges.{good-count}
 use Rattle.sheet.specs.Sheet.{checkNameAt, checkLinkAt}
-use Rattle.sheet.specs.Answers.{verdict}
+use Rattle.sheet.specs.Model.{verdict}
 use Rattle.sheet.proofs.Heading.{head-length, head-count, length-is}
 use Rattle.sheet.proofs.Said.{say-faulty, say-holds, at-head, at-names, at-links}
 use Rattle.sheet.proofs.check.Statement.{statement}

@@ -3,7 +3,7 @@ use borrow.Author.Tests.{le-leb, lt-leb, eq-eqb, ne-eqb}
 use Rattle.sheet.specs.Sheet.{hasMark}
 use lib.Dec.{eqb}
 use Prim.Native.Nat.{ℕ}
-use Rattle.sheet.proofs.Branches.{and-stop, and-go}
+use Rattle.sets.proofs.Tests.{and-stop, and-go}
 use borrow.Author.Needs.{needs}
 use Rattle.sheet.proofs.has_mark.Statement.{statement}
 use Rattle.sheet.proofs.has_mark.Tie as tie

@@ -1,7 +1,7 @@
 use mathlib.Core.Path.{refl}
 use borrow.Author.Tests.{eq-eqb, ne-eqb}
 use Rattle.sheet.specs.Network.{hasShape}
-use Rattle.sheet.proofs.Branches.{and-stop, and-go}
+use Rattle.sets.proofs.Tests.{and-stop, and-go}
 use Rattle.sheet.proofs.has_shape.Statement.{statement}
 use Rattle.sheet.proofs.has_shape.Tie as tie
 

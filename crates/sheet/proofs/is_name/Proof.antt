@@ -5,7 +5,7 @@ use borrow.Author.Tests.{not-true, not-false}
 use Prim.Native.Nat.{_≤_, _-_}
 use lib.ListN.{length, drop}
 use Rattle.sheet.specs.Sheet.{visibleThenSpaces, isName}
-use Rattle.sheet.proofs.Branches.{and-stop, and-go, cond-go, cond-stop}
+use Rattle.sets.proofs.Tests.{and-stop, and-go, cond-go, cond-stop}
 use Rattle.sheet.proofs.Form.{visible-at, visible-end, name-none, name-first}
 use Rattle.sheet.proofs.is_name.Statement.{statement}
 use Rattle.sheet.proofs.is_name.Tie as tie

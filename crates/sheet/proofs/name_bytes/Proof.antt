@@ -6,7 +6,8 @@ use Rattle.answers.specs.Verdict.{Verdict}
 use native.Mathlib.Nat.{add-sub-cancel-left}
 use lib.ListN.{take, drop}
 use Rattle.sheet.specs.Answers.{foundSays, nameIn, placeIn}
-use Rattle.sheet.proofs.Said.{said-count, said-refused, part-fits}
+use Rattle.sheet.proofs.Said.{part-fits}
+use Rattle.answers.proofs.Laws.{said-count, said-refused}
 use Rattle.sheet.proofs.name_bytes.Statement.{statement}
 use Rattle.sheet.proofs.name_bytes.Tie as tie
 

@@ -6,7 +6,7 @@ use Prim.Native.Nat.{ℕ, _+_, _≤_, _-_}
 use lib.ListN.{length}
 use Rattle.sets.proofs.Tables.{length-none}
 use Rattle.answers.specs.Verdict.{inOrder}
-use Rattle.sets.specs.Value.{width}
+use Rattle.sets.specs.Value.{width, noRows}
 use Rattle.percolation.specs.Links.{link}
 use Rattle.sheet.specs.Network.{network, partsOf, linkIn, checkLinkIn}
 use Rattle.sheet.proofs.InTurn.{Passed, passed-none, passed-stop, passed-more}
@@ -14,7 +14,7 @@ use Rattle.sheet.proofs.network_links.Statement.{statement}
 use Rattle.sheet.proofs.network_links.Tie as tie
 
 abbrev Inv-loop : tie.InvT-loop
-Inv-loop names lower higher weights p seen₀ before₀ j₀ seen before j = (j ≤ length lower) × Passed (linkIn (network names lower higher weights)) (λ i. 0) (partsOf (network names lower higher weights)) j seen before × (length seen ≡ 64)
+Inv-loop names lower higher weights p seen₀ before₀ j₀ seen before j = (j ≤ length lower) × Passed (linkIn (network names lower higher weights)) (λ i. 0) (partsOf (network names lower higher weights)) j seen before × (length seen ≡ length noRows)
 
 abbrev μ-loop : tie.MeasureT-loop
 μ-loop names lower higher weights p seen₀ before₀ j₀ seen before j = length lower - j
@@ -26,7 +26,7 @@ loop-holds : tie.Need-loop-holds Inv-loop μ-loop
 loop-holds c =
     let a = c .before .before .before .before .before .args in
     let n = network (a .names .now) (a .lower .now) (a .higher .now) (a .weights .now) in
-    (omega arith, subst⁻¹ (λ (R : List ℕ). Passed (linkIn n) (λ i. 0) (partsOf n) 0 R 65535) (c .no-rows .ensures) (passed-none _ _ _), ap length (c .no-rows .ensures) ∙ length-none)
+    (omega arith, subst⁻¹ (λ (R : List ℕ). Passed (linkIn n) (λ i. 0) (partsOf n) 0 R 65535) (c .no-rows .ensures) (passed-none _ _ _), ap length (c .no-rows .ensures))
 
 mul-wide : tie.Need-mul-wide Inv-loop μ-loop
 mul-wide c = omega arith
@@ -56,7 +56,7 @@ wide-requires-3 : tie.Need-wide-requires-3 Inv-loop μ-loop
 wide-requires-3 c κs = search needs
 
 slice-aggregate-link-number : tie.Need-slice-aggregate-link-number Inv-loop μ-loop
-slice-aggregate-link-number c = sym (c .before .before .before .before .before .before .before .before .loop .inv .2)
+slice-aggregate-link-number c = sym (c .before .before .before .before .before .before .before .before .loop .inv .2 ∙ length-none)
 
 link-number-requires : tie.Need-link-number-requires Inv-loop μ-loop
 link-number-requires c κs = search needs
@@ -75,7 +75,7 @@ returns c =
     sym (passed-stop (linkIn n) (λ i. 0) (partsOf n) (l .j) (l .seen) (l .before) fits (l .inv .1) x same small (r .result) (r .ensures) (length (a .lower .now)) (c .before .before .before .before .before .before .before .before .before .loop-test .taken) (c .if1 .taken))
 
 slice-aggregate-add-link : tie.Need-slice-aggregate-add-link Inv-loop μ-loop
-slice-aggregate-add-link c = sym (c .before .before .before .before .before .before .before .before .before .before .before .loop .inv .2)
+slice-aggregate-add-link c = sym (c .before .before .before .before .before .before .before .before .before .before .before .loop .inv .2 ∙ length-none)
 
 add-link-requires : tie.Need-add-link-requires Inv-loop μ-loop
 add-link-requires c κs = search needs

@@ -4,7 +4,7 @@ use borrow.Author.Tests.{eq-eqb, ne-eqb}
 use Prim.Native.Nat.{_≤_, _-_}
 use lib.ListN.{length, drop}
 use Rattle.sheet.specs.Sheet.{spaces}
-use Rattle.sheet.proofs.Branches.{and-stop, and-go}
+use Rattle.sets.proofs.Tests.{and-stop, and-go}
 use Rattle.sheet.proofs.Form.{spaces-at, spaces-end}
 use Rattle.sheet.proofs.only_spaces.Statement.{statement}
 use Rattle.sheet.proofs.only_spaces.Tie as tie

@@ -4,18 +4,19 @@ use borrow.Author.Needs.{needs}
 use mathlib.Core.List.{List}
 use Prim.Native.Nat.{ℕ, _+_, _*_, _≤_, _-_}
 use lib.ListN.{length}
+use Rattle.sets.specs.Value.{noRows}
 use Rattle.sets.proofs.Tables.{length-none}
 use Rattle.answers.specs.Verdict.{refused, inOrder}
 use Rattle.percolation.specs.Links.{link}
 use Rattle.checks.specs.Model.{linkNumber}
 use Rattle.sheet.specs.Sheet.{parts, linkAt, linkOf, checkLinkAt}
-use Rattle.sheet.specs.Answers.{linkRow}
+use Rattle.sheet.specs.Model.{linkRow}
 use Rattle.sheet.proofs.InTurn.{Passed, passed-none, passed-stop, passed-more}
 use Rattle.sheet.proofs.sheet_links.Statement.{statement}
 use Rattle.sheet.proofs.sheet_links.Tie as tie
 
 abbrev Inv-loop : tie.InvT-loop
-Inv-loop s p m seen₀ before₀ j₀ seen before j = (j ≤ m) × Passed (linkOf s) (linkAt s) (parts s) j seen before × (length seen ≡ 64)
+Inv-loop s p m seen₀ before₀ j₀ seen before j = (j ≤ m) × Passed (linkOf s) (linkAt s) (parts s) j seen before × (length seen ≡ length noRows)
 
 abbrev μ-loop : tie.MeasureT-loop
 μ-loop s p m seen₀ before₀ j₀ seen before j = m - j
@@ -24,13 +25,13 @@ no-rows-requires : tie.Need-no-rows-requires Inv-loop μ-loop
 no-rows-requires c κs = search needs
 
 loop-holds : tie.Need-loop-holds Inv-loop μ-loop
-loop-holds c = (omega arith, subst⁻¹ (λ (R : List ℕ). Passed (linkOf (c .before .before .args .s .now)) (linkAt (c .before .before .args .s .now)) (parts (c .before .before .args .s .now)) 0 R 65535) (c .no-rows .ensures) (passed-none _ _ _), ap length (c .no-rows .ensures) ∙ length-none)
+loop-holds c = (omega arith, subst⁻¹ (λ (R : List ℕ). Passed (linkOf (c .before .before .args .s .now)) (linkAt (c .before .before .args .s .now)) (parts (c .before .before .args .s .now)) 0 R 65535) (c .no-rows .ensures) (passed-none _ _ _), ap length (c .no-rows .ensures))
 
 link-requires : tie.Need-link-requires Inv-loop μ-loop
 link-requires c κs = (c .before .before .before .before .pre .0, omega (arith, c .loop-test .taken, c .before .before .before .before .pre .1 .1 .0))
 
 slice-aggregate-link-number : tie.Need-slice-aggregate-link-number Inv-loop μ-loop
-slice-aggregate-link-number c = sym (c .before .before .before .loop .inv .2)
+slice-aggregate-link-number c = sym (c .before .before .before .loop .inv .2 ∙ length-none)
 
 link-number-requires : tie.Need-link-number-requires Inv-loop μ-loop
 link-number-requires c κs = search needs
@@ -60,7 +61,7 @@ returns c =
     ∙ ap (λ (p : ℕ). refused (n .result) (8 + 8 * p + 4 * l .j)) (sym e))
 
 slice-aggregate-add-link : tie.Need-slice-aggregate-add-link Inv-loop μ-loop
-slice-aggregate-add-link c = sym (c .before .before .before .before .before .before .loop .inv .2)
+slice-aggregate-add-link c = sym (c .before .before .before .before .before .before .loop .inv .2 ∙ length-none)
 
 add-link-requires : tie.Need-add-link-requires Inv-loop μ-loop
 add-link-requires c κs = search needs

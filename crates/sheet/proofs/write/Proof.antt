@@ -9,7 +9,7 @@ use lib.Dec.{leb}
 use Rattle.answers.specs.Answers.{counts}
 use Rattle.answers.proofs.Laws.{then-stop, then-go, last-go, last-stop, say-accepted, say-refused, written-refused, written-accepted}
 use Rattle.sheet.specs.Network.{network, checkWrite, sheetOf}
-use Rattle.sheet.specs.Answers.{verdict}
+use Rattle.sheet.specs.Model.{verdict}
 use Rattle.sheet.proofs.Shape.{sheet-size}
 use Rattle.sheet.proofs.Sound.{network-few}
 use Rattle.sheet.proofs.write.Statement.{statement}
