@@ -8,5 +8,6 @@ pub mod Members
 pub mod OneWord
 pub mod Order
 pub mod Parts
+pub mod SetBytes
 pub mod Tables
 pub mod Tests

@@ -2,7 +2,7 @@
 use mathlib.Core.Path.{_≡_, refl, sym, ap, ap₂, _∙_, subst}
 use mathlib.Core.Logic.{_⊎_, inl, inr}
 use mathlib.Core.Bool.{Bool, true, false, not, _&&_, _||_, and-true, and-assoc}
-use mathlib.Core.List.{List, [], _∷_, _++_, map, flatten, List·Memᴰ·head, List·Memᴰ·tail, List·Memᴰ·not-nil, List·Memᴰ·cases-cons, List·Memᴰ·append-cases, Memᴰ·cast, Memᴰ·append-left, Memᴰ·append-right, Memᴰ·of-map}
+use mathlib.Core.List.{List, [], _∷_, _++_, map, flatten, append-nil, List·Memᴰ·head, List·Memᴰ·tail, List·Memᴰ·not-nil, List·Memᴰ·cases-cons, List·Memᴰ·append-cases, Memᴰ·cast, Memᴰ·append-left, Memᴰ·append-right, Memᴰ·map, Memᴰ·of-map}
 use Prim.Native.Nat.{ℕ, zero, suc, _+_, _≤_, _<_}
 use native.Mathlib.Omega.{arith}
 use lib.Dec.{ltb, eqb}
@@ -569,3 +569,65 @@ module _ {A : Type 0} (f : A → Bool) where
 pub rising-rest : {A : Type 0} (first : A → A → Bool) (x : A) (l : List A) → Rising first (x ∷ l) → Rising first l
 unfolding Rising
 rising-rest first x l r = r .1
+
+-- what is read inside a list is a member
+pub getD-member : {A : Type 0} (l : List A) (i : ℕ) (d : A) → i < length l → getD l i d ∈ l
+getD-member [] i d h = absurd (omega arith)
+getD-member (x ∷ l) zero d h = List·Memᴰ·head refl
+getD-member (x ∷ l) (suc i) d h = List·Memᴰ·tail (getD-member l i d (omega arith))
+
+-- ---- the numbers below one more
+
+from-more : (i n : ℕ) → from i (suc n) ≡ from i n ++ ((i + n) ∷ [])
+unfolding from
+from-more i zero = ap (λ (j : ℕ). j ∷ []) (let e : i ≡ i + 0 = omega arith in e)
+from-more i (suc n) =
+    ap (λ (l : List ℕ). i ∷ l) (from-more (suc i) n ∙ ap (λ (j : ℕ). from (suc i) n ++ (j ∷ [])) (let e : suc i + n ≡ i + suc n = omega arith in e))
+
+pub below-more : (n : ℕ) → below (suc n) ≡ below n ++ (n ∷ [])
+unfolding below
+below-more n = from-more 0 n ∙ ap (λ (j : ℕ). from 0 n ++ (j ∷ [])) (let e : 0 + n ≡ n = omega arith in e)
+
+-- what a test keeps of them
+pub keep-below-yes : (f : ℕ → Bool) (n : ℕ) → f n ≡ true → keep f (below (suc n)) ≡ keep f (below n) ++ (n ∷ [])
+unfolding keep
+keep-below-yes f n e = ap (keep f) (below-more n) ∙ keep-append f (below n) (n ∷ []) ∙ ap (λ (l : List ℕ). keep f (below n) ++ l) (keep-yes f n [] e)
+
+pub keep-below-no : (f : ℕ → Bool) (n : ℕ) → f n ≡ false → keep f (below (suc n)) ≡ keep f (below n)
+unfolding keep
+keep-below-no f n e =
+    ap (keep f) (below-more n) ∙ keep-append f (below n) (n ∷ []) ∙ ap (λ (l : List ℕ). keep f (below n) ++ l) (keep-no f n [] e) ∙ append-nil (keep f (below n))
+
+-- ---- lists that rise in what f gives of their elements
+
+module _ {A B : Type 0} (first : B → B → Bool) (f : A → B) where
+  pub rising-map : (l : List A) → Rising first (map f l) → Rising (λ x y. first (f x) (f y)) l
+  unfolding Rising
+  rising-map [] r = tt
+  rising-map (x ∷ l) r = ((λ y m. r .0 (f y) (Memᴰ·map f m)), rising-map l (r .1))
+
+  -- two such lists with the same members are one list; f need not tell all elements of A apart
+  pub rising-map-same : Order first → (l m : List A) → Rising (λ x y. first (f x) (f y)) l → Rising (λ x y. first (f x) (f y)) m → Holds m l → Holds l m → l ≡ m
+  unfolding Rising
+  rising-map-same order [] [] r s p q = refl
+  rising-map-same order [] (y ∷ m) r s p q = absurd (List·Memᴰ·not-nil (q y (List·Memᴰ·head refl)))
+  rising-map-same order (x ∷ l) [] r s p q = absurd (List·Memᴰ·not-nil (p x (List·Memᴰ·head refl)))
+  rising-map-same order (x ∷ l) (y ∷ m) r s p q = ap₂ (λ (a : A) (t : List A). a ∷ t) heads (rising-map-same order l m (r .1) (s .1) to fro)
+    where
+      one : (x ≡ y) ⊎ x ∈ m → (y ≡ x) ⊎ y ∈ l → x ≡ y
+      one (inl e) d = e
+      one (inr i) (inl e) = sym e
+      one (inr i) (inr j) = never (first (f x) (f y)) (r .0 y j) (asym first order (f y) (f x) (s .0 x i))
+
+      heads : x ≡ y
+      heads = one (List·Memᴰ·cases-cons (p x (List·Memᴰ·head refl))) (List·Memᴰ·cases-cons (q y (List·Memᴰ·head refl)))
+
+      off : (z a b : A) (t : List A) → a ≡ b → first (f a) (f z) ≡ true → (z ≡ b) ⊎ z ∈ t → z ∈ t
+      off z a b t e h (inl g) = never (first (f a) (f z)) h (ap (λ (u : A). first (f a) (f u)) (g ∙ sym e) ∙ order .irrefl (f a))
+      off z a b t e h (inr n) = n
+
+      to : Holds m l
+      to z n = off z x y m heads (r .0 z n) (List·Memᴰ·cases-cons (p z (List·Memᴰ·tail n)))
+
+      fro : Holds l m
+      fro z n = off z y x l (sym heads) (s .0 z n) (List·Memᴰ·cases-cons (q z (List·Memᴰ·tail n)))

@@ -69,3 +69,7 @@ length-none = length-replicate {A = ℕ} width 0
 pub row-none : (i : ℕ) → row noRows i ≡ 0
 unfolding noRows
 row-none i = row-clear width i
+
+pub length-store : (xs : List ℕ) (i n : ℕ) → length (store xs i n) ≡ length xs
+unfolding store
+length-store xs i n = length-set xs i n

@@ -35,3 +35,7 @@ bytes (suc n) x = x / 256 ^ n % 256 ∷ bytes n x
 unfoldable pub setBytes : ℕ → List ℕ
 unfolding bytes
 setBytes s = bytes 8 s
+
+-- how many bytes a set has
+abbrev pub setLength : ℕ
+setLength = 8

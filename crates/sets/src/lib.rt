@@ -2,11 +2,12 @@
 // number of the answer by a function of specs/Sets.antt, and a table by the functions of specs/Value.antt.
 ghost use mathlib.Core.Path.{_≡_};
 ghost use mathlib.Core.Bool.{cond};
-ghost use lib.Dec.{ltb, eqb};
+ghost use mathlib.Core.List.{List, _++_};
+ghost use lib.Dec.{ltb, leb, eqb};
 ghost use lib.ListN.{length, replicate};
-ghost use Prim.Native.Nat.{min};
+ghost use Prim.Native.Nat.{ℕ, min, _+_, _<_, _^_};
 ghost use Rattle.sets.specs.Sets.{has, one, meet, union, minus, into, out, size, sub, before, lowest, lows, full};
-ghost use Rattle.sets.specs.Value.{width, num, rows, row, store, noRows};
+ghost use Rattle.sets.specs.Value.{width, num, rows, row, store, noRows, setBytes, setLength};
 
 // Its word is nobody else's to see: a wider set changes this crate alone.
 pub struct Set {
@@ -210,4 +211,50 @@ pub fn clear(table: &mut [u64])
         table[i] = 0;
         i += 1;
     }
+}
+
+// How many bytes a set has.
+pub fn byte_count() -> usize
+    ensures { λ r. ⌜ r ≡ setLength ⌝ }
+{
+    8
+}
+
+// Whether n bytes have room for a set's from `at` on.
+fn has_room(n: usize, at: usize) -> bool
+    ensures { λ r. ⌜ r ≡ leb (at + setLength) n ⌝ }
+{
+    if at < n { 8 <= n - at } else { false }
+}
+
+// The bytes of s from `at` on, high byte first; where they do not fit nothing changes.
+pub fn put_bytes(out: &mut [u8], at: usize, s: Set)
+    ensures { λ _. ⌜ ((a x b : List ℕ) → now (out .entry) ≡ a ++ x ++ b → length a ≡ at → length x ≡ setLength → now (out .exit) ≡ a ++ setBytes (num s) ++ b) ⌝ }
+{
+    if !has_room(out.len(), at) {
+        return;
+    }
+    let word = s.word;
+    let mut i = 0;
+    while i < 8 {
+        let byte = (word >> (56 - 8 * i)) % 256;
+        out[at + i] = byte as u8;
+        i += 1;
+    }
+}
+
+// The set whose bytes stand from `at` on; the empty set where there are too few.
+pub fn from_bytes(src: &[u8], at: usize) -> Set
+    ensures { λ r. ⌜ ((a b : List ℕ) (n : ℕ) → now (src .entry) ≡ a ++ setBytes n ++ b → length a ≡ at → n < 2 ^ width → num r ≡ n) ⌝ }
+{
+    if !has_room(src.len(), at) {
+        return empty();
+    }
+    let mut word: u64 = 0;
+    let mut i = 0;
+    while i < 8 {
+        word = word * 256 + src[at + i] as u64;
+        i += 1;
+    }
+    Set { word }
 }

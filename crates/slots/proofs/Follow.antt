@@ -6,7 +6,8 @@ use Prim.Native.Nat.{ℕ, zero, suc, _≤_, _<_}
 use native.Mathlib.Omega.{arith}
 use lib.ListN.{length, getD, set, length-set, List·getD-eq-default}
 use lib.Seq.{getD-set-same, getD-set-other}
-use borrow.Author.Tests.{lt-ltb, le-ltb}
+use lib.Dec.{leb, eqb}
+use borrow.Author.Tests.{lt-ltb, le-ltb, le-leb, lt-leb, eq-eqb, ne-eqb}
 use Rattle.sets.proofs.Tests.{lt-or-le, same-or-not}
 use Rattle.sets.proofs.ListLaws.{getD-in}
 use Rattle.sets.proofs.Tables.{set-past}
@@ -73,6 +74,16 @@ module _ (es : List ℕ) where
 
   pub root-twice : (i : ℕ) → rootOf es (rootOf es i) ≡ rootOf es i
   root-twice i = root-stop (rootOf es i) (root-ends i)
+
+-- a slot is its own end exactly when its entry is not below it
+pub root-test : (es : List ℕ) (i e : ℕ) → e ≡ getD es i i → leb i e ≡ eqb (rootOf es i) i
+root-test es i e p = go (lt-or-le (getD es i i) i)
+  where
+    go : (getD es i i < i) ⊎ (i ≤ getD es i i) → leb i e ≡ eqb (rootOf es i) i
+    go (inl h) =
+        let lower : rootOf es i ≡ i → ⊥ = λ s. omega (arith, root-go es i h, root-le es (getD es i i)) in
+        lt-leb i e (omega arith) ∙ sym (ne-eqb (rootOf es i) i lower)
+    go (inr h) = le-leb i e (omega arith) ∙ sym (eq-eqb (rootOf es i) i (root-stop es i h))
 
 -- where a slot ends turns on the entries below and at it alone
 pub root-below : (es fs : List ℕ) (n : ℕ) → ((i : ℕ) → i < n → getD fs i i ≡ getD es i i) → (x : ℕ) → x < n → rootOf fs x ≡ rootOf es x

@@ -1,7 +1,7 @@
 // The four lent tables of the sequential run: slots found, placed and joined, and the tables with one clique more.
 ghost use mathlib.Core.Path.{_≡_};
 ghost use mathlib.Core.List.{List};
-ghost use lib.Dec.{leb};
+ghost use lib.Dec.{leb, eqb};
 ghost use lib.ListN.{length, getD, replicate};
 ghost use Prim.Native.Nat.{ℕ, _≤_, _<_, _^_, min, max};
 ghost use Rattle.sets.specs.Lists.{all, below};
@@ -50,6 +50,13 @@ pub fn root(entries: &[u32], i: usize) -> usize
     }
 }
 
+// Whether slot i is its own end.
+pub fn is_root(entries: &[u32], i: usize) -> bool
+    ensures { λ r. ⌜ r ≡ eqb (rootOf (now (entries .entry)) i) i ⌝ }
+{
+    i <= entry(entries, i)
+}
+
 // As root, and makes the way shorter: each other slot on it gets its entry's entry.
 fn halve(entries: &mut [u32], i: usize) -> usize
     ensures { λ r. ⌜ (r ≡ rootOf (now (entries .entry)) i) × (r ≤ i) ⌝ }
@@ -83,7 +90,7 @@ fn higher(a: usize, b: usize) -> usize
 }
 
 // The lesser of two sets.
-fn lesser(a: Set, b: Set) -> Set
+pub fn lesser(a: Set, b: Set) -> Set
     ensures { λ r. ⌜ num r ≡ lesser (num a) (num b) ⌝ }
 {
     if sets::less(b, a) { b } else { a }

@@ -6,19 +6,15 @@ use borrow.Author.Needs.{needs}
 use Rattle.checks.proofs.add_link.Statement.{statement}
 use Rattle.checks.proofs.add_link.Tie as tie
 
--- src/lib.rt:60:5
 mark-requires : tie.Need-mark-requires
 mark-requires c κs = search needs
 
--- src/lib.rt:61:5
 mark-requires-2 : tie.Need-mark-requires-2
 mark-requires-2 c κs = search needs
 
--- src/lib.rt:57:1
 same-length : tie.Need-same-length
 same-length c = search needs
 
--- src/lib.rt:57:1
 returns : tie.Need-returns
 unfolding marked
 returns c =

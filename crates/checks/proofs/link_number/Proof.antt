@@ -6,37 +6,29 @@ use borrow.Author.Needs.{needs}
 use Rattle.checks.proofs.link_number.Statement.{statement}
 use Rattle.checks.proofs.link_number.Tie as tie
 
--- src/lib.rt:33:9
 good-parts-requires : tie.Need-good-parts-requires
 good-parts-requires c κs = search needs
 
--- src/lib.rt:34:9
 returns : tie.Need-returns
 returns c = number-6 _ _ _ _ (parts-alone _ _ _ _ _ ∙ sym (c .before .good-parts .ensures) ∙ not-true _ (c .if1 .taken))
 
--- src/lib.rt:37:9
 returns-2 : tie.Need-returns-2
 returns-2 c = number-7 _ _ _ _ (parts-alone _ _ _ _ _ ∙ sym (c .before .before .good-parts .ensures) ∙ not-false _ (c .before .if1 .left)) (c .if2 .taken)
 
--- src/lib.rt:40:9
 returns-3 : tie.Need-returns-3
 returns-3 c = number-8 _ _ _ _ (parts-alone _ _ _ _ _ ∙ sym (c .before .before .before .good-parts .ensures) ∙ not-false _ (c .before .before .if1 .left)) (c .before .if2 .left) (c .if3 .taken)
 
--- src/lib.rt:42:18
 at-requires : tie.Need-at-requires
 at-requires c κs = search needs
 
--- src/lib.rt:42:8
 has-requires : tie.Need-has-requires
 has-requires c κs = search needs
 
--- src/lib.rt:43:9
 returns-4 : tie.Need-returns-4
 returns-4 c =
     number-9 _ _ _ _ (parts-alone _ _ _ _ _ ∙ sym (c .before .before .before .before .before .before .good-parts .ensures) ∙ not-false _ (c .before .before .before .before .before .if1 .left)) (c .before .before .before .before .if2 .left) (c .before .before .before .if3 .left)
     (ap (has _) (sym (c .before .before .at .ensures)) ∙ sym (c .before .has .ensures) ∙ c .if4 .taken)
 
--- src/lib.rt:30:1
 returns-5 : tie.Need-returns-5
 returns-5 c =
     number-0 _ _ _ _ (parts-alone _ _ _ _ _ ∙ sym (c .before .before .before .before .before .before .good-parts .ensures) ∙ not-false _ (c .before .before .before .before .before .if1 .left)) (c .before .before .before .before .if2 .left) (c .before .before .before .if3 .left)

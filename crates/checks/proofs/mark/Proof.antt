@@ -9,23 +9,18 @@ use borrow.Author.Needs.{needs}
 use Rattle.checks.proofs.mark.Statement.{statement}
 use Rattle.checks.proofs.mark.Tie as tie
 
--- src/lib.rt:52:27
 at-requires : tie.Need-at-requires
 at-requires c κs = search needs
 
--- src/lib.rt:52:9
 with-requires : tie.Need-with-requires
 with-requires c κs = search needs
 
--- src/lib.rt:53:5
 put-requires : tie.Need-put-requires
 put-requires c κs = search needs
 
--- src/lib.rt:49:1
 same-length : tie.Need-same-length
 same-length c = search needs
 
--- src/lib.rt:49:1
 returns : tie.Need-returns
 unfolding withNeighbour
 returns c =

@@ -1,0 +1,5 @@
+pub mod FoundSets
+pub mod Maxima
+pub mod Pivot
+pub mod Stage
+pub mod Turns

@@ -1,0 +1,6 @@
+pub mod Checking
+pub mod Every
+pub mod Inserting
+pub mod NowListed
+pub mod Running
+pub mod Starting

@@ -1,0 +1,54 @@
+-- What the listing now must do is what the code does: refused by 11 or 12, and listed from the ends of the slots. Assumes nothing.
+use mathlib.Core.Path.{_≡_, sym, ap, _∙_}
+use mathlib.Core.List.{List}
+use Prim.Native.Nat.{ℕ}
+use native.Mathlib.Omega.{arith}
+use lib.ListN.{length}
+use Rattle.answers.specs.Verdict.{written}
+use Rattle.answers.specs.Answers.{refuses, says, sayOf}
+use Rattle.answers.specs.declared.Answer.{Answer}
+use Rattle.answers.proofs.Laws.{said-refused, written-refused, accepted-not}
+use Rattle.percolation.specs.Percolate.{Community, communities, listingBytes}
+use Rattle.percolation.specs.Links.{Link, cliques, listing, family}
+use Rattle.percolation.proofs.Levels.{heavy-zero}
+use Rattle.percolation.proofs.Ranges.{good-k}
+use Rattle.checks.proofs.Numbers.{numbered-0}
+use Rattle.slots.specs.Tables.{Tables}
+use Rattle.search.proofs.Inserted.{cliques-family}
+use Rattle.listings.specs.Listing.{checkOut}
+use Rattle.listings.specs.Model.{listed}
+use Rattle.listings.proofs.Listed.{listed-communities}
+use Rattle.sequential.specs.declared.State.{State}
+use Rattle.sequential.specs.Steps.{Holds, ListingNowMeets}
+use Rattle.sequential.specs.Model.{stateNumber}
+use Rattle.sequential.proofs.Inserting.{state-says, numbered-refused, held-number}
+
+module _ (S : State) (T : Tables) (old : List ℕ) (r : Answer) (out : List ℕ) where
+  pub unlisted-meets : (n : ℕ) → n ≡ stateNumber S T → (n ≡ 0 → ⊥) → says r ≡ refuses n 0 → out ≡ old → ListingNowMeets S T old r out
+  unlisted-meets n e bad a o = record {
+    checked = λ m b c.
+        let f = numbered-refused (stateNumber S T) 0 m b (sym (state-says S T) ∙ c) in a ∙ ap (λ (x : ℕ). refuses x 0) (e ∙ f .0) ∙ ap (refuses m) (f .1 .1);
+    answer = λ p k n L h. absurd (bad (e ∙ held-number p k n L S T h));
+    bytes = λ p k n L h. absurd (bad (e ∙ held-number p k n L S T h));
+    kept = λ m b c. o;
+  }
+
+  -- what stands at the ends of the slots is the listing of the links that are held
+  abbrev C : List Community
+  C = listed (T .entries) (T .smallest) (T .unions) (S .used)
+
+  ends-are : (p k n : ℕ) (L : List Link) → Holds p k n L S T → C ≡ listing L p k 0
+  unfolding listing family
+  ends-are p k n L h =
+      ap (listed (T .entries) (T .smallest) (T .unions)) (h .same-used)
+      ∙ listed-communities p k (cliques L p k) T (cliques-family L p k) (omega (arith, good-k k (h .size) .0)) (h .shows)
+      ∙ ap (λ (M : List Link). communities k (cliques M p k)) (sym (heavy-zero L))
+
+  pub listed-meets : stateNumber S T ≡ 0 → says r ≡ sayOf (checkOut C (length old)) (length C) → out ≡ written (checkOut C (length old)) (listingBytes C) old
+      → ListingNowMeets S T old r out
+  listed-meets z a o = record {
+    checked = λ m b c. accepted-not m b (sym c ∙ state-says S T ∙ numbered-0 (stateNumber S T) 0 z);
+    answer = λ p k n L h. a ∙ ap (λ (D : List Community). sayOf (checkOut D (length old)) (length D)) (ends-are p k n L h);
+    bytes = λ p k n L h. o ∙ ap (λ (D : List Community). written (checkOut D (length old)) (listingBytes D) old) (ends-are p k n L h);
+    kept = λ m b c. o ∙ written-refused (checkOut C (length old)) (listingBytes C) old m b (said-refused (checkOut C (length old)) (length C) m b (sym c ∙ a));
+  }

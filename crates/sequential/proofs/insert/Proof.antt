@@ -1,0 +1,64 @@
+use native.Mathlib.Omega.{arith}
+use Rattle.sequential.proofs.Inserting.{refused-meets, taken-meets}
+use Rattle.sequential.proofs.Checking.{insert-two, insert-room, insert-parts}
+use mathlib.Core.Path.{refl, sym, _∙_}
+use borrow.Author.Needs.{needs}
+use Rattle.sequential.proofs.insert.Statement.{statement}
+use Rattle.sequential.proofs.insert.Tie as tie
+
+insert-number-requires : tie.Need-insert-number-requires
+insert-number-requires c κs = search needs
+
+same-length : tie.Need-same-length
+same-length c = search needs
+
+same-length-2 : tie.Need-same-length-2
+same-length-2 c = search needs
+
+same-length-3 : tie.Need-same-length-3
+same-length-3 c = search needs
+
+same-length-4 : tie.Need-same-length-4
+same-length-4 c = search needs
+
+returns : tie.Need-returns
+returns c = refused-meets _ _ _ (omega (arith, c .before .before .before .before .before .before .before .before .before .before .fits .weight)) _ _ _ (c .before .insert-number .ensures) (c .if1 .taken) refl refl refl
+
+slice-aggregate-take-link : tie.Need-slice-aggregate-take-link
+slice-aggregate-take-link c = search needs
+
+take-link-requires : tie.Need-take-link-requires
+take-link-requires c κs = let z = sym (c .before .before .before .before .before .before .before .insert-number .ensures) ∙ c .before .before .before .before .before .before .if1 .left in let q = insert-parts _ _ _ z in (insert-two _ _ _ z, q .0, q .1, insert-room _ _ _ z)
+
+same-length-5 : tie.Need-same-length-5
+same-length-5 c = search needs
+
+same-length-6 : tie.Need-same-length-6
+same-length-6 c = search needs
+
+same-length-7 : tie.Need-same-length-7
+same-length-7 c = search needs
+
+same-length-8 : tie.Need-same-length-8
+same-length-8 c = search needs
+
+returns-2 : tie.Need-returns-2
+returns-2 c = taken-meets _ _ _ (omega (arith, c .before .before .before .before .before .before .before .before .before .before .before .before .before .before .before .before .before .before .before .before .before .before .before .before .before .before .fits .weight)) (sym (c .before .before .before .before .before .before .before .before .before .before .before .before .before .before .before .before .before .insert-number .ensures) ∙ c .before .before .before .before .before .before .before .before .before .before .before .before .before .before .before .before .if1 .left) _ _ _ (c .before .before .before .before .before .before .before .before .before .take-link .ensures .0) (c .before .before .before .before .before .before .before .before .before .take-link .ensures .1 .0) refl refl
+
+pub insert-spec : {M : Type 1} → statement M
+insert-spec =
+    tie.close
+    (tie.spec
+    insert-number-requires
+    same-length
+    same-length-2
+    same-length-3
+    same-length-4
+    returns
+    slice-aggregate-take-link
+    take-link-requires
+    same-length-5
+    same-length-6
+    same-length-7
+    same-length-8
+    returns-2)

@@ -1,0 +1,4 @@
+pub mod EveryList
+pub mod Model
+pub mod OnSheet
+pub mod Steps

@@ -1,0 +1,276 @@
+// The sequential run: start, insert, the listing now, and the listing of a sheet through these steps.
+ghost use mathlib.Core.Path.{_≡_};
+ghost use Prim.Native.Nat.{_≤_};
+ghost use lib.ListN.{length};
+ghost use Rattle.answers.specs.Verdict.{accepted, written};
+ghost use Rattle.answers.specs.Answers.{refuses, says, sayOf};
+ghost use Rattle.percolation.specs.Percolate.{listingBytes};
+ghost use Rattle.percolation.specs.Links.{link};
+ghost use Rattle.sheet.specs.Sheet.{parts, links};
+ghost use Rattle.sets.specs.Value.{noRows};
+ghost use Rattle.slots.specs.Tables.{tables, room};
+ghost use Rattle.runs.specs.Lent.{lent, checkCall, left};
+ghost use Rattle.sequential.specs.Steps.{state, goodState, StartMeets, InsertMeets, ListingNowMeets};
+ghost use Rattle.sequential.specs.OnSheet.{listingOf, checkRun, checkListing};
+ghost use Rattle.sequential.specs.Model.{stateNumber, linkStep, insertNumber};
+use answers::Answer;
+use sheet::Checked;
+
+// What goes from step to step beside the tables: p, k, how many slots are used, the last weight (65,535 with no link), and the neighbours of each part.
+pub struct State {
+    p: usize,
+    k: usize,
+    used: usize,
+    last: usize,
+    rows: [u64; 64],
+}
+
+// What a step gives back: its answer, and the state for the next one.
+pub struct Stepped {
+    answer: Answer,
+    state: State,
+}
+
+// A refused start: a state of zeros, which 12 refuses.
+fn not_started(n: u8) -> Stepped
+    ensures { λ r. ⌜ (says (r .answer) ≡ refuses n 0) × (r .state ≡ state 0 0 0 0 noRows) ⌝ }
+{
+    let rows = sets::no_rows();
+    Stepped {
+        answer: Answer::Refused(n, 0),
+        state: State {
+            p: 0,
+            k: 0,
+            used: 0,
+            last: 0,
+            rows,
+        },
+    }
+}
+
+// Begins with no links and tables all zero: 4, 10, 11.
+pub fn start(
+    p: usize,
+    k: usize,
+    sets: &mut [u64],
+    entries: &mut [u32],
+    smallest: &mut [u64],
+    unions: &mut [u64],
+) -> Stepped
+    ensures { λ r. ⌜ StartMeets p k (lent (now (sets .entry)) (now (entries .entry)) (now (smallest .entry)) (now (unions .entry))) r (lent (now (sets .exit)) (now (entries .exit)) (now (smallest .exit)) (now (unions .exit))) ⌝ }
+{
+    if !checks::good_count(p) {
+        return not_started(4);
+    }
+    if !checks::good_k(k) {
+        return not_started(10);
+    }
+    if !runs::level(sets, entries, smallest, unions) {
+        return not_started(11);
+    }
+    runs::clear(sets, entries, smallest, unions);
+    let rows = sets::no_rows();
+    Stepped {
+        answer: Answer::Count(0),
+        state: State {
+            p,
+            k,
+            used: 0,
+            last: 65535,
+            rows,
+        },
+    }
+}
+
+// Whether k, p and the used slots lie in their ranges, and no used entry is above its slot number.
+fn good_state(state: State, entries: &[u32]) -> bool
+    ensures { λ r. ⌜ r ≡ goodState state (now (entries .entry)) ⌝ }
+{
+    if !checks::good_k(state.k) {
+        return false;
+    }
+    if !checks::good_count(state.p) {
+        return false;
+    }
+    if slots::room(entries) < state.used {
+        return false;
+    }
+    slots::steady(entries, state.used)
+}
+
+// The first of 11 and 12 that applies to a state and its tables, or 0.
+fn state_number(state: State, sets: &[u64], entries: &[u32], smallest: &[u64], unions: &[u64]) -> u8
+    ensures { λ r. ⌜ r ≡ stateNumber state (tables (now (sets .entry)) (now (entries .entry)) (now (smallest .entry)) (now (unions .entry)) (state .used)) ⌝ }
+{
+    if !runs::level(sets, entries, smallest, unions) {
+        return 11;
+    }
+    if !good_state(state, entries) {
+        return 12;
+    }
+    0
+}
+
+// The first of 6 to 9 and 15 that applies to a link, or 0. 15 counts by the rows alone, before a table is written.
+fn link_step(state: State, entries: &[u32], low: usize, high: usize, weight: u16) -> u8
+    requires { ⌜ (2 ≤ state .k) × (state .used ≤ room (now entries)) ⌝ }
+    ensures { λ r. ⌜ r ≡ linkStep state (now (entries .entry)) (link low high weight) ⌝ }
+{
+    let rows = state.rows;
+    let n = checks::link_number(&rows, state.p, low, high, weight as usize, state.last);
+    if n != 0 {
+        return n;
+    }
+    let more = search::new_slots(&rows, state.k, low, high);
+    if slots::room(entries) - state.used < more {
+        return 15;
+    }
+    0
+}
+
+// The first of 11, 12, 6 to 9 and 15 that applies to an insert, or 0.
+fn insert_number(
+    state: State,
+    sets: &[u64],
+    entries: &[u32],
+    smallest: &[u64],
+    unions: &[u64],
+    low: usize,
+    high: usize,
+    weight: u16,
+) -> u8
+    ensures { λ r. ⌜ r ≡ insertNumber state (tables (now (sets .entry)) (now (entries .entry)) (now (smallest .entry)) (now (unions .entry)) (state .used)) (link low high weight) ⌝ }
+{
+    let n = state_number(state, sets, entries, smallest, unions);
+    if n != 0 {
+        return n;
+    }
+    link_step(state, entries, low, high, weight)
+}
+
+// One link more: 11, 12, 6 to 9, 15. A refused insert leaves state and tables as they were.
+pub fn insert(
+    state: State,
+    sets: &mut [u64],
+    entries: &mut [u32],
+    smallest: &mut [u64],
+    unions: &mut [u64],
+    low: usize,
+    high: usize,
+    weight: u16,
+) -> Stepped
+    ensures { λ r. ⌜ InsertMeets state (tables (now (sets .entry)) (now (entries .entry)) (now (smallest .entry)) (now (unions .entry)) (state .used)) (link low high weight) r (tables (now (sets .exit)) (now (entries .exit)) (now (smallest .exit)) (now (unions .exit)) (r .state .used)) ⌝ }
+{
+    let n = insert_number(state, sets, entries, smallest, unions, low, high, weight);
+    if n != 0 {
+        return Stepped {
+            answer: Answer::Refused(n, 0),
+            state,
+        };
+    }
+    let mut rows = state.rows;
+    let used = runs::take_link(
+        &mut rows,
+        sets,
+        entries,
+        smallest,
+        unions,
+        state.used,
+        state.k,
+        low,
+        high,
+    );
+    Stepped {
+        answer: Answer::Count(0),
+        state: State {
+            p: state.p,
+            k: state.k,
+            used,
+            last: weight as usize,
+            rows,
+        },
+    }
+}
+
+// The listing of the links so far: 11, 12, 16. It writes no table.
+pub fn listing_now(
+    state: State,
+    sets: &[u64],
+    entries: &[u32],
+    smallest: &[u64],
+    unions: &[u64],
+    out: &mut [u8],
+) -> Answer
+    ensures { λ r. ⌜ ListingNowMeets state (tables (now (sets .entry)) (now (entries .entry)) (now (smallest .entry)) (now (unions .entry)) (state .used)) (now (out .entry)) r (now (out .exit)) ⌝ }
+{
+    let n = state_number(state, sets, entries, smallest, unions);
+    if n != 0 {
+        return Answer::Refused(n, 0);
+    }
+    listings::list_roots(entries, smallest, unions, state.used, out)
+}
+
+// The listing of an admitted sheet at t, in tables that it leaves anyhow: 15, by the rows of the links alone, then the links, then 16.
+fn run(
+    sheet: &[u8],
+    p: usize,
+    m: usize,
+    k: usize,
+    t: u16,
+    sets: &mut [u64],
+    entries: &mut [u32],
+    smallest: &mut [u64],
+    unions: &mut [u64],
+    out: &mut [u8],
+) -> Answer
+    requires { ⌜ (checkCall (now sheet) k (lent (now sets) (now entries) (now smallest) (now unions)) ≡ accepted) × (p ≡ parts (now sheet)) × (m ≡ links (now sheet)) ⌝ }
+    ensures { λ r. ⌜ says r ≡ sayOf (checkRun (now (sheet .entry)) k t (now (entries .entry)) (length (now (out .entry)))) (length (listingOf (now (sheet .entry)) k t)) ⌝ }
+    ensures { λ _. ⌜ now (out .exit) ≡ written (checkRun (now (sheet .entry)) k t (now (entries .entry)) (length (now (out .entry)))) (listingBytes (listingOf (now (sheet .entry)) k t)) (now (out .entry)) ⌝ }
+{
+    let n = runs::heavy(sheet, m, t);
+    let rows = runs::rows_of(sheet, n);
+    let need = search::needed(&rows, p, k);
+    if slots::room(entries) < need {
+        return Answer::Refused(15, 0);
+    }
+    runs::clear(sets, entries, smallest, unions);
+    let mut seen = sets::no_rows();
+    let used = runs::take_links(
+        sheet,
+        &mut seen,
+        sets,
+        entries,
+        smallest,
+        unions,
+        0,
+        k,
+        0,
+        n,
+    );
+    listings::list_roots(entries, smallest, unions, used, out)
+}
+
+// The listing of a sheet at threshold t: 1 to 9, 10, 11, 15, 16. The tables are zeroed whenever it came as far as 15.
+pub fn listing(
+    sheet: &[u8],
+    k: usize,
+    t: u16,
+    sets: &mut [u64],
+    entries: &mut [u32],
+    smallest: &mut [u64],
+    unions: &mut [u64],
+    out: &mut [u8],
+) -> Answer
+    ensures { λ r. ⌜ says r ≡ sayOf (checkListing (now (sheet .entry)) k t (lent (now (sets .entry)) (now (entries .entry)) (now (smallest .entry)) (now (unions .entry))) (length (now (out .entry)))) (length (listingOf (now (sheet .entry)) k t)) ⌝ }
+    ensures { λ _. ⌜ now (out .exit) ≡ written (checkListing (now (sheet .entry)) k t (lent (now (sets .entry)) (now (entries .entry)) (now (smallest .entry)) (now (unions .entry))) (length (now (out .entry)))) (listingBytes (listingOf (now (sheet .entry)) k t)) (now (out .entry)) ⌝ }
+    ensures { λ _. ⌜ lent (now (sets .exit)) (now (entries .exit)) (now (smallest .exit)) (now (unions .exit)) ≡ left (checkCall (now (sheet .entry)) k (lent (now (sets .entry)) (now (entries .entry)) (now (smallest .entry)) (now (unions .entry)))) (lent (now (sets .entry)) (now (entries .entry)) (now (smallest .entry)) (now (unions .entry))) ⌝ }
+{
+    match runs::admit(sheet, k, sets, entries, smallest, unions) {
+        Checked::Faulty(n, a) => Answer::Refused(n, a),
+        Checked::Fine(p, m) => {
+            let answer = run(sheet, p, m, k, t, sets, entries, smallest, unions, out);
+            runs::clear(sets, entries, smallest, unions);
+            answer
+        }
+    }
+}
