@@ -3,14 +3,14 @@ use mathlib.Core.Path.{_≡_, refl, sym, ap, _∙_, subst}
 use mathlib.Core.Logic.{_⊎_, inl, inr}
 use mathlib.Core.Bool.{true, false}
 use mathlib.Core.List.{List, [], _∷_, _++_, map, List·Memᴰ·head, List·Memᴰ·tail, List·Memᴰ·not-nil, List·Memᴰ·cases-cons, Memᴰ·cast, Memᴰ·map, Memᴰ·of-map}
-use Prim.Native.Nat.{ℕ, suc, _+_, _≤_, _<_, _^_}
+use Prim.Native.Nat.{ℕ, suc, _+_, _≤_, _<_}
 use native.Mathlib.Omega.{arith}
 use lib.Dec.{eqb}
 use lib.ListN.{length, length-map}
 use borrow.Author.Tests.{eq-eqb, eqb-true}
 use Rattle.sets.specs.Lists.{_∈_, below}
 use Rattle.sets.specs.Sets.{before}
-use Rattle.sets.specs.Value.{width, row}
+use Rattle.sets.specs.Value.{row}
 use Rattle.sets.proofs.Tests.{split}
 use Rattle.sets.proofs.ListLaws.{Holds, Rising, Distinct, keep-at, keep-of, keep-distinct, rising-distinct, number-order, below-of, below-at, below-rising, rising-map, rising-map-same, map-append, keep-below-yes, keep-below-no}
 use Rattle.sets.proofs.Order.{set-order}
@@ -224,11 +224,6 @@ module _ (es ms us : List ℕ) where
   unfolding listed
   listed-at n i l e = insertedAll-at [] (map (standsAt ms us) (rootSlots es n)) (inr (Memᴰ·map (standsAt ms us) (roots-at es n i l e)))
 
-  -- their smallest cliques fit where those of the table do
-  pub listed-fits : (n : ℕ) → ((i : ℕ) → i < n → row ms i < 2 ^ width) → (c : Community) → c ∈ listed es ms us n → c .small < 2 ^ width
-  unfolding standsAt
-  listed-fits n h c m = let r = listed-of n c m in subst (λ (x : Community). x .small < 2 ^ width) (r .3) (h (r .0) (r .1))
-
   listed-rising : (n : ℕ) → ((i j : ℕ) → i < n → j < n → rootOf es i ≡ i → rootOf es j ≡ j → row ms i ≡ row ms j → i ≡ j) → BySmall (listed es ms us n)
   unfolding listed standsAt Rising
   listed-rising n one =
@@ -237,6 +232,14 @@ module _ (es ms us : List ℕ) where
       (λ i c mi mc e. List·Memᴰ·not-nil mc)
 
 -- ---- the communities
+
+-- where no smallest clique stands at two ends, and the communities stand at the ends, what is listed are the communities
+pub listed-same : (es ms us : List ℕ) (n k : ℕ) (F : List ℕ)
+    → ((i j : ℕ) → i < n → j < n → rootOf es i ≡ i → rootOf es j ≡ j → row ms i ≡ row ms j → i ≡ j)
+    → Holds (communities k F) (listed es ms us n) → Holds (listed es ms us n) (communities k F) → listed es ms us n ≡ communities k F
+listed-same es ms us n k F one to fro =
+    rising-map-same before (λ (c : Community). c .small) set-order (listed es ms us n) (communities k F) (listed-rising es ms us n one)
+    (rising-map before (λ (c : Community). c .small) (communities k F) (communities-rising k F)) to fro
 
 module _ (p k : ℕ) (F : List ℕ) (T : Tables) (family : Family p k F) (some : 1 ≤ k) (h : Shows p k F T) where
   -- an end shows what stands at it
@@ -261,10 +264,7 @@ module _ (p k : ℕ) (F : List ℕ) (T : Tables) (family : Family p k F) (some :
       Memᴰ·cast (sym (sym (stands-end (r .0) (r .2)) ∙ r .3)) (listed-at (T .entries) (T .smallest) (T .unions) (T .used) (r .0) (r .1) (r .2))
 
   listed-is : listed (T .entries) (T .smallest) (T .unions) (T .used) ≡ communities k F
-  listed-is =
-      rising-map-same before (λ (c : Community). c .small) set-order (listed (T .entries) (T .smallest) (T .unions) (T .used)) (communities k F)
-      (listed-rising (T .entries) (T .smallest) (T .unions) (T .used) once)
-      (rising-map before (λ (c : Community). c .small) (communities k F) (communities-rising k F)) shown-listed all-listed
+  listed-is = listed-same (T .entries) (T .smallest) (T .unions) (T .used) k F once shown-listed all-listed
 
 pub listed-communities : (p k : ℕ) (F : List ℕ) (T : Tables) → Family p k F → 1 ≤ k → Shows p k F T
     → listed (T .entries) (T .smallest) (T .unions) (T .used) ≡ communities k F

@@ -183,6 +183,10 @@ module _ (k n : ℕ) (A m u : List ℕ) (longA : n ≤ rows A) (longM : n ≤ ro
       let q = showing-same k M (h .base) (row (W .sets) (b .0)) c (shownAt W (s .0)) (h, own) (s .2) (subst (Chain (overlap k) M (h .base)) (b .3) own) in
       Memᴰ·cast q (Memᴰ·map (shownAt W) (below-at (s .0) (W .count) (s .1)))
 
+  -- no smallest clique stands in two rows
+  pub classes-apart : (c d : ℕ) → c < W .count → d < W .count → row (W .smallest) c ≡ row (W .smallest) d → c ≡ d
+  classes-apart = found .once
+
   pub classes-once : Distinct (map (λ (c : Community). c .small) D)
   classes-once = map-distinct (λ (c : Community). c .small) D apart same
     where

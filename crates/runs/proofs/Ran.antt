@@ -42,16 +42,16 @@ module _ (p : ℕ) (L M : List Link) (l : Link) (ok : legal p (L ++ (l ∷ M)) �
   pub legal-past : legal p ((L ++ (l ∷ [])) ++ M) ≡ true
   legal-past = ap (legal p) (append-snoc L l M) ∙ ok
 
-  legal-with : legal p (L ++ (l ∷ [])) ≡ true
+  pub legal-with : legal p (L ++ (l ∷ [])) ≡ true
   legal-with = legal-front p (L ++ (l ∷ [])) M legal-past
 
-  ends-fit : (l .low < l .high) × (l .high < p)
+  pub ends-fit : (l .low < l .high) × (l .high < p)
   ends-fit = good-parts p l (check-parts p L l 0 (legal-init p L l 0 legal-with .1))
 
-  near-one : (R : List ℕ) → p ≤ width → Neighbours L R → Neighbours (L ++ (l ∷ [])) (marked R (l .low) (l .high))
+  pub near-one : (R : List ℕ) → p ≤ width → Neighbours L R → Neighbours (L ++ (l ∷ [])) (marked R (l .low) (l .high))
   near-one R wide n = near-more L R l n (omega (arith, ends-fit)) (omega (arith, ends-fit))
 
-  shown-one : (k : ℕ) (R : List ℕ) (T : Tables) → p ≤ width → 2 ≤ k → Neighbours L R → Shows p k (cliques L p k) T
+  pub shown-one : (k : ℕ) (R : List ℕ) (T : Tables) → p ≤ width → 2 ≤ k → Neighbours L R → Shows p k (cliques L p k) T
       → slots p k (cliques (L ++ (l ∷ [])) p k) ≤ room (T .entries)
       → Shows p k (cliques (L ++ (l ∷ [])) p k) (tookAll T (newCliques R k (l .low) (l .high)))
   shown-one k R T wide two n h fit =
@@ -100,7 +100,7 @@ pub take-legal : (p n : ℕ) (L : List Link) → legal p L ≡ true → legal p 
 take-legal p n L ok = legal-front p (take n L) (drop n L) (ap (legal p) (take-append-drop n L) ∙ ok)
 
 module _ (p : ℕ) (L : List Link) (i j : ℕ) (wide : p ≤ width) (ok : legal p L ≡ true) (h : i ≤ j) (R : List ℕ) (n : Neighbours (take i L) R) where
-  further-legal : legal p (take i L ++ drop i (take j L)) ≡ true
+  pub further-legal : legal p (take i L ++ drop i (take j L)) ≡ true
   further-legal = ap (legal p) (between i j L h) ∙ take-legal p j L ok
 
   pub further-near : Neighbours (take j L) (rowsWith R (drop i (take j L)))

@@ -1,5 +1,6 @@
 pub mod AllTaken
 pub mod Cliques
+pub mod FreeAll
 pub mod Inserted
 pub mod NewCliques
 pub mod Peeled

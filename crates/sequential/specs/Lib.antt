@@ -1,4 +1,3 @@
 pub mod EveryList
 pub mod Model
-pub mod OnSheet
 pub mod Steps

@@ -9,9 +9,9 @@ ghost use Rattle.percolation.specs.Links.{link};
 ghost use Rattle.sheet.specs.Sheet.{parts, links};
 ghost use Rattle.sets.specs.Value.{noRows};
 ghost use Rattle.slots.specs.Tables.{tables, room};
-ghost use Rattle.runs.specs.Lent.{lent, checkCall, left};
+ghost use Rattle.runs.specs.Lent.{lent, checkCall};
 ghost use Rattle.sequential.specs.Steps.{state, goodState, StartMeets, InsertMeets, ListingNowMeets};
-ghost use Rattle.sequential.specs.OnSheet.{listingOf, checkRun, checkListing};
+ghost use Rattle.runs.specs.OnSheet.{listingOf, slotsFor, checkRun, ListingMeets};
 ghost use Rattle.sequential.specs.Model.{stateNumber, linkStep, insertNumber};
 use answers::Answer;
 use sheet::Checked;
@@ -224,8 +224,8 @@ fn run(
     out: &mut [u8],
 ) -> Answer
     requires { ⌜ (checkCall (now sheet) k (lent (now sets) (now entries) (now smallest) (now unions)) ≡ accepted) × (p ≡ parts (now sheet)) × (m ≡ links (now sheet)) ⌝ }
-    ensures { λ r. ⌜ says r ≡ sayOf (checkRun (now (sheet .entry)) k t (now (entries .entry)) (length (now (out .entry)))) (length (listingOf (now (sheet .entry)) k t)) ⌝ }
-    ensures { λ _. ⌜ now (out .exit) ≡ written (checkRun (now (sheet .entry)) k t (now (entries .entry)) (length (now (out .entry)))) (listingBytes (listingOf (now (sheet .entry)) k t)) (now (out .entry)) ⌝ }
+    ensures { λ r. ⌜ says r ≡ sayOf (checkRun (slotsFor (now (sheet .entry)) k t) (now (sheet .entry)) k t (now (entries .entry)) (length (now (out .entry)))) (length (listingOf (now (sheet .entry)) k t)) ⌝ }
+    ensures { λ _. ⌜ now (out .exit) ≡ written (checkRun (slotsFor (now (sheet .entry)) k t) (now (sheet .entry)) k t (now (entries .entry)) (length (now (out .entry)))) (listingBytes (listingOf (now (sheet .entry)) k t)) (now (out .entry)) ⌝ }
 {
     let n = runs::heavy(sheet, m, t);
     let rows = runs::rows_of(sheet, n);
@@ -261,9 +261,7 @@ pub fn listing(
     unions: &mut [u64],
     out: &mut [u8],
 ) -> Answer
-    ensures { λ r. ⌜ says r ≡ sayOf (checkListing (now (sheet .entry)) k t (lent (now (sets .entry)) (now (entries .entry)) (now (smallest .entry)) (now (unions .entry))) (length (now (out .entry)))) (length (listingOf (now (sheet .entry)) k t)) ⌝ }
-    ensures { λ _. ⌜ now (out .exit) ≡ written (checkListing (now (sheet .entry)) k t (lent (now (sets .entry)) (now (entries .entry)) (now (smallest .entry)) (now (unions .entry))) (length (now (out .entry)))) (listingBytes (listingOf (now (sheet .entry)) k t)) (now (out .entry)) ⌝ }
-    ensures { λ _. ⌜ lent (now (sets .exit)) (now (entries .exit)) (now (smallest .exit)) (now (unions .exit)) ≡ left (checkCall (now (sheet .entry)) k (lent (now (sets .entry)) (now (entries .entry)) (now (smallest .entry)) (now (unions .entry)))) (lent (now (sets .entry)) (now (entries .entry)) (now (smallest .entry)) (now (unions .entry))) ⌝ }
+    ensures { λ r. ⌜ ListingMeets (slotsFor (now (sheet .entry)) k t) (now (sheet .entry)) k t (lent (now (sets .entry)) (now (entries .entry)) (now (smallest .entry)) (now (unions .entry))) (now (out .entry)) r (lent (now (sets .exit)) (now (entries .exit)) (now (smallest .exit)) (now (unions .exit))) (now (out .exit)) ⌝ }
 {
     match runs::admit(sheet, k, sets, entries, smallest, unions) {
         Checked::Faulty(n, a) => Answer::Refused(n, a),

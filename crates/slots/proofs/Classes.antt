@@ -118,7 +118,7 @@ module _ (es : List ℕ) (i j : ℕ) where
       go (inr r) (inl e) = inr (e ∙ sym (r .1))
       go (inr r) (inr e) = inl (e ∙ sym (r .0))
 
-  roots-own : (rootOf es (lowRoot es i j) ≡ lowRoot es i j) × (rootOf es (highRoot es i j) ≡ highRoot es i j)
+  pub roots-own : (rootOf es (lowRoot es i j) ≡ lowRoot es i j) × (rootOf es (highRoot es i j) ≡ highRoot es i j)
   roots-own = both-roots (λ r. rootOf es r ≡ r) (root-twice es i) (root-twice es j)
 
   two-halved : (x : ℕ) → rootOf (halved (halved es i) j) x ≡ rootOf es x

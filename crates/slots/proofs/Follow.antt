@@ -1,13 +1,13 @@
 -- Where following entries ends, and that path halving changes no end. Assumes nothing.
 use mathlib.Core.Path.{_≡_, refl, sym, ap, _∙_, subst}
 use mathlib.Core.Logic.{_⊎_, inl, inr, _↔_}
-use mathlib.Core.List.{List}
+use mathlib.Core.List.{List, []}
 use Prim.Native.Nat.{ℕ, zero, suc, _≤_, _<_}
 use native.Mathlib.Omega.{arith}
 use lib.ListN.{length, getD, set, length-set, List·getD-eq-default}
 use lib.Seq.{getD-set-same, getD-set-other}
 use lib.Dec.{leb, eqb}
-use borrow.Author.Tests.{lt-ltb, le-ltb, le-leb, lt-leb, eq-eqb, ne-eqb}
+use borrow.Author.Tests.{lt-ltb, le-ltb, le-leb, lt-leb, eq-eqb, eqb-true, ne-eqb}
 use Rattle.sets.proofs.Tests.{lt-or-le, same-or-not}
 use Rattle.sets.proofs.ListLaws.{getD-in}
 use Rattle.sets.proofs.Tables.{set-past}
@@ -84,6 +84,10 @@ root-test es i e p = go (lt-or-le (getD es i i) i)
         let lower : rootOf es i ≡ i → ⊥ = λ s. omega (arith, root-go es i h, root-le es (getD es i i)) in
         lt-leb i e (omega arith) ∙ sym (ne-eqb (rootOf es i) i lower)
     go (inr h) = le-leb i e (omega arith) ∙ sym (eq-eqb (rootOf es i) i (root-stop es i h))
+
+-- with no entries each slot is its own end
+pub root-none : (i : ℕ) → rootOf [] i ≡ i
+root-none i = eqb-true (rootOf [] i) i (sym (root-test [] i i refl) ∙ le-leb i i (omega arith))
 
 -- where a slot ends turns on the entries below and at it alone
 pub root-below : (es fs : List ℕ) (n : ℕ) → ((i : ℕ) → i < n → getD fs i i ≡ getD es i i) → (x : ℕ) → x < n → rootOf fs x ≡ rootOf es x

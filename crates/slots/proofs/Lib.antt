@@ -4,6 +4,7 @@ pub mod Classes
 pub mod Communal
 pub mod Finding
 pub mod Follow
+pub mod Free
 pub mod Growth
 pub mod Lengths
 pub mod Peel
