@@ -1,6 +1,6 @@
 -- A class grows from one row: the frontier method takes in what a chain joins to it, and nothing else. Assumes nothing.
 use mathlib.Core.Path.{_≡_, refl, sym, ap, ap₂, _∙_, subst}
-use mathlib.Core.Logic.{_⊎_, inl, inr}
+use mathlib.Core.Logic.{_⊎_, inl, inr, _↔_}
 use mathlib.Core.Bool.{true, false}
 use mathlib.Core.List.{List}
 use Prim.Native.Nat.{ℕ, zero, suc, _+_, _-_, _≤_, _<_, _^_}
@@ -202,6 +202,10 @@ module _ (k n : ℕ) (M T : List ℕ) (long : n ≤ rows T) (fits : Fits n T) (r
 
           go : Among 0 n U b → Among i e U b
           go (y, ly, hy, ey) = pick y hy ey (lt-or-le y i) (lt-or-le y e)
+
+  -- the rows of the class are the members that a chain joins to row i
+  pub class-joined : (B : ℕ) → Chain (overlap k) M (row T i) B ↔ Among i e U B
+  class-joined B = (class-walk, λ a. subst (Chain (overlap k) M (row T i)) (sym (a .3)) (g .joined (a .0) (a .1) (a .2)))
 
   shows : ShowsMaximal k M (shown (classAt k n T i .small) (classAt k n T i .whole))
   shows = record {

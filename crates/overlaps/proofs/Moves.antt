@@ -75,7 +75,7 @@ module _ (T : List ℕ) (i j : ℕ) (fi : i < rows T) (fj : j < rows T) (wi : ro
   unfolding swapped
   swap-second = row-store (store T i (row T j)) j (row T i) (omega (arith, rows-store T i (row T j))) wi
 
-  swap-first : row (swapped T i j) i ≡ row T j
+  pub swap-first : row (swapped T i j) i ≡ row T j
   unfolding swapped
   swap-first = go (same-or-not i j)
     where

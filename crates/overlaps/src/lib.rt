@@ -8,13 +8,13 @@ use sets::Set;
 
 // A class in the table: where it ends, its smallest clique and its union.
 pub struct Class {
-    end: usize,
+    pub end: usize,
     small: Set,
     whole: Set,
 }
 
 // Rows i and j change places.
-fn swap(table: &mut [u64], i: usize, j: usize)
+pub fn swap(table: &mut [u64], i: usize, j: usize)
     ensures { λ _. ⌜ now (table .exit) ≡ swapped (now (table .entry)) i j ⌝ }
 {
     let s = sets::at(table, i);

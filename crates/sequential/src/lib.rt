@@ -18,17 +18,17 @@ use sheet::Checked;
 
 // What goes from step to step beside the tables: p, k, how many slots are used, the last weight (65,535 with no link), and the neighbours of each part.
 pub struct State {
-    p: usize,
-    k: usize,
-    used: usize,
-    last: usize,
-    rows: [u64; 64],
+    pub p: usize,
+    pub k: usize,
+    pub used: usize,
+    pub last: usize,
+    pub rows: [u64; 64],
 }
 
 // What a step gives back: its answer, and the state for the next one.
 pub struct Stepped {
-    answer: Answer,
-    state: State,
+    pub answer: Answer,
+    pub state: State,
 }
 
 // A refused start: a state of zeros, which 12 refuses.

@@ -1,0 +1,143 @@
+-- Demand 3: every list of inserts, both runs on a sheet of the same links, the meeting weight by both runs, and any three meeting weights. Each is a
+-- theorem over what the calls must do. Assumes nothing.
+use mathlib.Core.Path.{_≡_, refl, sym, ap, _∙_}
+use mathlib.Core.Logic.{_↔_}
+use mathlib.Core.List.{List, [], _++_}
+use Prim.Native.Nat.{ℕ, _≤_}
+use native.Mathlib.Omega.{arith}
+use lib.ListN.{length, drop}
+use Rattle.answers.specs.Verdict.{Verdict, accepted, refused, _then_}
+use Rattle.answers.specs.Answers.{Said, counts, says}
+use Rattle.answers.specs.declared.Answer.{Answer}
+use Rattle.answers.proofs.Laws.{said-count, written-accepted, then-left}
+use Rattle.sets.specs.Lists.{_∈_}
+use Rattle.percolation.specs.Percolate.{Community, adjacent, Chain, listingBytes}
+use Rattle.percolation.specs.Links.{Link, family, listing}
+use Rattle.percolation.specs.Levels.{Meeting, met, never, meeting, weightOf}
+use Rattle.percolation.specs.Steps.{acceptedLinks}
+use Rattle.percolation.proofs.Ranges.{good-k}
+use Rattle.percolation.proofs.Accepted.{legal-positive}
+use Rattle.percolation.proofs.Same.{legal-below, listing-same}
+use Rattle.percolation.proofs.Meet.{MeetsAt, TwoLowest, meeting-of, meeting-at, never-of, never-at, two-lowest}
+use Rattle.slots.specs.Tables.{Tables}
+use Rattle.sheet.specs.Sheet.{parts, linksOf, checkSheet}
+use Rattle.sheet.proofs.Sound.{sheet-legal}
+use Rattle.runs.specs.OnSheet.{listingOf, ListingMeets}
+use Rattle.runs.specs.Lent.{checkCall}
+use Rattle.runs.proofs.Agreed.{not-refused}
+use Rattle.runs.proofs.Admitted.{call-sheet, call-k}
+use Rattle.sequential.specs.declared.State.{State}
+use Rattle.sequential.specs.declared.Stepped.{Stepped}
+use Rattle.sequential.specs.Steps.{checkStart, StartMeets, ListingNowMeets}
+use Rattle.sequential.specs.EveryList.{Inserts, Claim}
+use Rattle.sequential.proofs.Every.{every-list}
+use Rattle.meeting.specs.declared.Met.{Met}
+use Rattle.meeting.specs.Answers.{tells, meetSays, meetSay, meetingOf, checkPair, checkSequential, checkMaximal}
+use Rattle.agreement.specs.Same.{HasLinks}
+
+-- ---- 1 and 2: the listing of a list of inserts, and of every sheet with exactly the accepted links
+
+-- the accepted links, and a sheet that has exactly these: its listing at threshold 0 is the listing now, whatever its part count
+module _ (p k n : ℕ) (X : List Link) (A : List Said) (S : State) (T : Tables) (claim : Claim p k n X A S T) (s : List ℕ)
+    (same : HasLinks s (acceptedLinks p k n [] X)) where
+  abbrev L : List Link
+  L = acceptedLinks p k n [] X
+
+  two : 2 ≤ k
+  two = good-k k (claim .holds .size) .0
+
+  sheet-listing : listingOf s k 0 ≡ listing L p k 0
+  unfolding listingOf
+  sheet-listing =
+      listing-same (linksOf s) L (parts s) p k two (same .some) (same .each) (legal-below (parts s) (linksOf s) (sheet-legal s (same .fine)))
+      (legal-below p L (claim .holds .links)) 0
+
+  -- by either run (c is what its 15 counts), where neither is refused: the same count, and with the same output before it the same output
+  pub both-runs : (old : List ℕ) (a : Answer) (x : List ℕ) → ListingNowMeets S T old a x
+      → (c : ℕ) (Y : Tables) (b : Answer) (Z : Tables) (y : List ℕ) → ListingMeets c s k 0 Y old b Z y
+      → (i j : ℕ) → says a ≡ counts i → says b ≡ counts j → (i ≡ j) × (x ≡ y)
+  both-runs old a x now c Y b Z y meets i j e f =
+      let l = claim .now old a x now in
+      let g = said-count _ _ i (sym e ∙ l .answer) in
+      let h = not-refused c s k 0 Y old b Z y meets j f in (
+        g .1 ∙ ap length (sym sheet-listing) ∙ sym (h .count),
+        l .bytes ∙ written-accepted _ _ old (g .0) ∙ ap (λ (C : List Community). listingBytes C ++ drop (length (listingBytes C)) old) (sym sheet-listing) ∙ sym (h .bytes),
+      )
+
+-- the whole, from an accepted start on: the claim of every list, and both runs on every sheet with the accepted links
+pub every-list-and-sheet : (p k : ℕ) (T : Tables) (r : Stepped) (U : Tables) → StartMeets p k T r U → checkStart p k T ≡ accepted
+    → (X : List Link) (A : List Said) (S : State) (W : Tables) → Inserts (r .state) U X A S W
+    → Claim p k (length (T .entries)) X A S W
+    × ((s : List ℕ) → HasLinks s (acceptedLinks p k (length (T .entries)) [] X) → (old : List ℕ) (a : Answer) (x : List ℕ) → ListingNowMeets S W old a x
+    → (c : ℕ) (Y : Tables) (b : Answer) (Z : Tables) (y : List ℕ) → ListingMeets c s k 0 Y old b Z y
+    → (i j : ℕ) → says a ≡ counts i → says b ≡ counts j → (i ≡ j) × (x ≡ y))
+every-list-and-sheet p k T r U m ok X A S W i =
+    let c = every-list p k T r U m ok X A S W i in (c, λ s h. both-runs p k (length (T .entries)) X A S W c s h)
+
+-- ---- 3: the meeting weight by either run, in the sense of chains
+
+told : (v : Verdict) (m x : Meeting) → tells m ≡ meetSay v x → (v ≡ accepted) × (m ≡ x)
+unfolding meetSay
+told accepted m x e = (refl, cc)
+told (refused n a) m x e = let q : _≡_ {A = ℕ} 0 1 = cc in absurd (omega arith)
+
+-- What a call tells where it is not refused. Both calls check 1 to 13 first; w is what they check after that.
+module _ (s : List ℕ) (k a b : ℕ) (T : Tables) (w : Verdict) (r : Met) (meets : meetSays r ≡ meetSay (checkPair s k a b T then w) (meetingOf s k a b))
+    (m : Meeting) (e : meetSays r ≡ tells m) where
+  pub tells-meeting : m ≡ meeting (linksOf s) (parts s) k a b
+  unfolding meetingOf
+  tells-meeting = told (checkPair s k a b T then w) m (meeting (linksOf s) (parts s) k a b) (sym e ∙ meets) .1
+
+  passed : checkCall s k T ≡ accepted
+  unfolding checkPair
+  passed = then-left (checkCall s k T) _ (then-left (checkPair s k a b T) w (told (checkPair s k a b T then w) m (meetingOf s k a b) (sym e ∙ meets) .0))
+
+  pub told-fine : checkSheet s ≡ accepted
+  told-fine = call-sheet s k T passed
+
+  pub told-two : 2 ≤ k
+  told-two = good-k k (call-k s k T passed) .0
+
+  pos : (l : Link) → l ∈ linksOf s → 1 ≤ l .weight
+  pos = legal-positive (parts s) (linksOf s) (sheet-legal s told-fine)
+
+  -- a weight is the largest threshold from 1 at which a chain joins them
+  pub tells-weight : (v : ℕ) → (m ≡ met v) ↔ MeetsAt (linksOf s) (parts s) k a b v
+  tells-weight v = (
+    (λ f. meeting-of (linksOf s) (parts s) k told-two pos a b v (sym tells-meeting ∙ f)),
+    (λ h. tells-meeting ∙ meeting-at (linksOf s) (parts s) k told-two pos a b v h),
+  )
+
+  -- never, exactly when no chain at any threshold joins them
+  pub tells-never : (m ≡ never) ↔ ((t : ℕ) → Chain (adjacent k) (family (linksOf s) (parts s) k t) a b → ⊥)
+  tells-never = (
+    (λ f. never-of (linksOf s) (parts s) k told-two pos a b (sym tells-meeting ∙ f)),
+    (λ h. tells-meeting ∙ never-at (linksOf s) (parts s) k told-two pos a b (λ t o. h t)),
+  )
+
+-- both calls are of this form
+pub sequential-form : (s : List ℕ) (k a b : ℕ) (T : Tables)
+    → (w : Verdict) × (checkSequential s k a b T ≡ (checkPair s k a b T then w))
+unfolding checkSequential
+sequential-form s k a b T = (_, refl)
+
+pub maximal-form : (s : List ℕ) (k a b : ℕ) (T : Tables) → (w : Verdict) × (checkMaximal s k a b T ≡ (checkPair s k a b T then w))
+unfolding checkMaximal
+maximal-form s k a b T = (_, refl)
+
+-- both runs agree where neither is refused, whatever tables they were lent
+pub meetings-agree : (s : List ℕ) (k a b : ℕ) (T U : Tables) (x y : Met) → meetSays x ≡ meetSay (checkSequential s k a b T) (meetingOf s k a b)
+    → meetSays y ≡ meetSay (checkMaximal s k a b U) (meetingOf s k a b) → (m n : Meeting) → meetSays x ≡ tells m → meetSays y ≡ tells n → m ≡ n
+meetings-agree s k a b T U x y f g m n d e =
+    told (checkSequential s k a b T) m (meetingOf s k a b) (sym d ∙ f) .1 ∙ sym (told (checkMaximal s k a b U) n (meetingOf s k a b) (sym e ∙ g) .1)
+
+-- ---- 4: of three meeting weights the two lowest are equal, never counting as 0; each may come from either run
+
+pub lowest-agree : (s : List ℕ) (k a b c : ℕ) (T U W : Tables) (u v w : Verdict) (x y z : Met)
+    → meetSays x ≡ meetSay (checkPair s k a b T then u) (meetingOf s k a b) → meetSays y ≡ meetSay (checkPair s k b c U then v) (meetingOf s k b c)
+    → meetSays z ≡ meetSay (checkPair s k a c W then w) (meetingOf s k a c) → (l m n : Meeting) → meetSays x ≡ tells l → meetSays y ≡ tells m
+    → meetSays z ≡ tells n → TwoLowest (weightOf l) (weightOf m) (weightOf n)
+lowest-agree s k a b c T U W u v w x y z f g h l m n d e i =
+    rw (tells-meeting s k a b T u x f l d, tells-meeting s k b c U v y g m e, tells-meeting s k a c W w z h n i)
+    (two-lowest (linksOf s) (parts s) k (told-two s k a b T u x f l d)
+    (legal-positive (parts s) (linksOf s) (sheet-legal s (told-fine s k a b T u x f l d))) a b c)
