@@ -166,15 +166,15 @@ insertedAll-rising f C (i ∷ l) r d one new =
 -- ---- the slots that are their own ends
 
 module _ (es : List ℕ) where
-  roots-of : (n : ℕ) {i : ℕ} → i ∈ rootSlots es n → (i < n) × (rootOf es i ≡ i)
+  pub roots-of : (n : ℕ) {i : ℕ} → i ∈ rootSlots es n → (i < n) × (rootOf es i ≡ i)
   unfolding rootSlots
   roots-of n {i} m = let h = keep-of (λ j. eqb (rootOf es j) j) (below n) m in (below-of n (h .0), eqb-true (rootOf es i) i (h .1))
 
-  roots-at : (n i : ℕ) → i < n → rootOf es i ≡ i → i ∈ rootSlots es n
+  pub roots-at : (n i : ℕ) → i < n → rootOf es i ≡ i → i ∈ rootSlots es n
   unfolding rootSlots
   roots-at n i l e = keep-at (λ j. eqb (rootOf es j) j) (below n) (below-at i n l) (eq-eqb (rootOf es i) i e)
 
-  roots-distinct : (n : ℕ) → Distinct (rootSlots es n)
+  pub roots-distinct : (n : ℕ) → Distinct (rootSlots es n)
   unfolding rootSlots
   roots-distinct n = keep-distinct (λ j. eqb (rootOf es j) j) (below n) (rising-distinct _ number-order (below n) (below-rising n))
 
@@ -243,7 +243,7 @@ listed-same es ms us n k F one to fro =
 
 module _ (p k : ℕ) (F : List ℕ) (T : Tables) (family : Family p k F) (some : 1 ≤ k) (h : Shows p k F T) where
   -- an end shows what stands at it
-  stands-end : (i : ℕ) → rootOf (T .entries) i ≡ i → shownAt T i ≡ standsAt (T .smallest) (T .unions) i
+  pub stands-end : (i : ℕ) → rootOf (T .entries) i ≡ i → shownAt T i ≡ standsAt (T .smallest) (T .unions) i
   unfolding shownAt standsAt
   stands-end i e = ap (λ (r : ℕ). shown (row (T .smallest) r) (row (T .unions) r)) e
 

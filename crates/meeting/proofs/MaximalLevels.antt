@@ -3,7 +3,7 @@
 use mathlib.Core.Path.{_≡_, refl, sym, ap, _∙_, subst}
 use mathlib.Core.Logic.{_⊎_, inl, inr}
 use mathlib.Core.Bool.{Bool, true, false, cond}
-use mathlib.Core.List.{List, [], _∷_, _++_, append-assoc, List·Memᴰ·head, List·Memᴰ·tail, List·Memᴰ·not-nil, List·Memᴰ·cases-cons, List·Memᴰ·append-cases, Memᴰ·append-right}
+use mathlib.Core.List.{List, _∷_, _++_, append-assoc, List·Memᴰ·head, List·Memᴰ·not-nil, List·Memᴰ·cases-cons, List·Memᴰ·append-cases, Memᴰ·append-right}
 use Prim.Native.Nat.{ℕ, suc, _≤_, _<_}
 use native.Mathlib.Omega.{arith}
 use lib.Dec.{eqb}
@@ -15,7 +15,7 @@ use Rattle.answers.proofs.Laws.{last-stop, last-go}
 use Rattle.sets.specs.Lists.{_∈_, all, keep}
 use Rattle.sets.specs.Sets.{size}
 use Rattle.sets.proofs.Tests.{split, never, not-so, lt-or-le}
-use Rattle.sets.proofs.ListLaws.{all-at, all-of, keep-at, keep-of, getD-member}
+use Rattle.sets.proofs.ListLaws.{all-at, all-of, keep-at, keep-of, getD-member, member-split}
 use Rattle.percolation.specs.Percolate.{joined}
 use Rattle.percolation.specs.Links.{Link, link, heavy, cliques, family, maximals}
 use Rattle.percolation.specs.Levels.{Meeting, met, levels, joinedAt, meeting}
@@ -36,10 +36,6 @@ use Rattle.meeting.specs.MaximalModel.{Stands, Filled, checkLevels}
 
 -- ---- the links of one level after those before it
 
-member-split : (A : List Link) {x : Link} → x ∈ A → (C : List Link) × (D : List Link) × (A ≡ C ++ (x ∷ D))
-member-split A (List·Memᴰ·head {x = y} {xs = B} e) = ([], B, ap (λ (z : Link). z ∷ B) (sym e))
-member-split A (List·Memᴰ·tail {x = y} {xs = B} m) = let r = member-split B m in (y ∷ r .0, r .1, ap (λ (z : List Link). y ∷ z) (r .2))
-
 -- link n weighs w, and the first j links are those of weight w or more
 module _ (p : ℕ) (L : List Link) (ok : legal p L ≡ true) (n w : ℕ) (d : Link) (h : n < length L) (e : w ≡ getD L n d .weight) (j : ℕ) (le : j ≤ length L)
     (first : take j L ≡ heavy w L) where
@@ -49,7 +45,7 @@ module _ (p : ℕ) (L : List Link) (ok : legal p L ≡ true) (n w : ℕ) (d : Li
   -- the links before it weigh no less
   earlier : AllHeavy w (take n L)
   earlier x m =
-      let r = member-split (take n L) m in
+      let r = member-split _ (take n L) m in
       omega (
         arith,
         e,

@@ -1,5 +1,5 @@
 -- The tests over lists against membership; lists in an order. Assumes nothing.
-use mathlib.Core.Path.{_≡_, refl, sym, ap, ap₂, _∙_, subst}
+use mathlib.Core.Path.{_≡_, refl, sym, ap, ap₂, _∙_, subst, subst⁻¹}
 use mathlib.Core.Logic.{_⊎_, inl, inr}
 use mathlib.Core.Bool.{Bool, true, false, not, _&&_, _||_, and-true, and-assoc}
 use mathlib.Core.List.{List, [], _∷_, _++_, map, flatten, append-nil, List·Memᴰ·head, List·Memᴰ·tail, List·Memᴰ·not-nil, List·Memᴰ·cases-cons, List·Memᴰ·append-cases, Memᴰ·cast, Memᴰ·append-left, Memᴰ·append-right, Memᴰ·map, Memᴰ·of-map}
@@ -631,3 +631,53 @@ module _ {A B : Type 0} (first : B → B → Bool) (f : A → B) where
 
       fro : Holds l m
       fro z n = off z y x l (sym heads) (s .0 z n) (List·Memᴰ·cases-cons (q z (List·Memᴰ·tail n)))
+
+-- ---- by members
+
+-- functions that agree on the members of a list
+pub map-on : {A B : Type 0} (f g : A → B) (l : List A) → ((x : A) → x ∈ l → f x ≡ g x) → map f l ≡ map g l
+map-on f g [] h = refl
+map-on f g (x ∷ l) h = ap₂ _∷_ (h x (List·Memᴰ·head refl)) (map-on f g l (λ y m. h y (List·Memᴰ·tail m)))
+
+pub distinct-map : {A B : Type 0} (f : A → B) (l : List A) → Distinct (map f l) → Distinct l
+unfolding Distinct
+distinct-map f [] d = tt
+distinct-map f (x ∷ l) d = ((λ m. d .0 (Memᴰ·map f m)), distinct-map f l (d .1))
+
+-- rising-map the other way round
+pub map-rising : {A B : Type 0} (first : B → B → Bool) (f : A → B) (l : List A) → Rising (λ x y. first (f x) (f y)) l → Rising first (map f l)
+unfolding Rising
+map-rising first f [] r = tt
+map-rising first f (x ∷ l) r = ((λ y m. let q = Memᴰ·of-map f l m in ap (first (f x)) (sym (q .2)) ∙ r .0 (q .0) (q .1)), map-rising first f l (r .1))
+
+-- a member with what stands before and after it
+pub member-split : {A : Type 0} (x : A) (l : List A) → x ∈ l → (B : List A) × (C : List A) × (l ≡ B ++ (x ∷ C))
+member-split x l (List·Memᴰ·head {x = y} {xs = xs} e) = ([], xs, ap (λ (z : _). z ∷ xs) (sym e))
+member-split x l (List·Memᴰ·tail {x = y} {xs = xs} m) = let r = member-split x xs m in (y ∷ r .0, r .1, ap (λ (z : List _). y ∷ z) (r .2))
+
+-- ---- places in a list
+
+pub member-index : {A : Type 0} (x d : A) (l : List A) → x ∈ l → (j : ℕ) × (j < length l) × (getD l j d ≡ x)
+member-index x d [] m = absurd (List·Memᴰ·not-nil m)
+member-index x d (y ∷ l) m = go (List·Memᴰ·cases-cons m) (member-index x d l)
+  where
+    go : (x ≡ y) ⊎ x ∈ l → (x ∈ l → (j : ℕ) × (j < length l) × (getD l j d ≡ x)) → (j : ℕ) × (j < suc (length l)) × (getD (y ∷ l) j d ≡ x)
+    go (inl e) rest = (0, omega arith, sym e)
+    go (inr n) rest = let r = rest n in (suc (r .0), omega (arith, r .1), r .2)
+
+pub distinct-index : {A : Type 0} (d : A) (l : List A) → Distinct l → (i j : ℕ) → i < length l → j < length l → getD l i d ≡ getD l j d → i ≡ j
+unfolding Distinct
+distinct-index d [] s i j a b e = absurd (omega arith)
+distinct-index d (x ∷ l) s zero zero a b e = refl
+distinct-index d (x ∷ l) s zero (suc j) a b e = absurd (s .0 (subst⁻¹ (λ (y : _). y ∈ l) e (getD-member l j d (omega arith))))
+distinct-index d (x ∷ l) s (suc i) zero a b e = absurd (s .0 (subst (λ (y : _). y ∈ l) e (getD-member l i d (omega arith))))
+distinct-index d (x ∷ l) s (suc i) (suc j) a b e = ap suc (distinct-index d l (s .1) i j (omega arith) (omega arith) e)
+
+pub map-at : {A B : Type 0} (f : A → B) (l : List A) (j : ℕ) (d : A) (c : B) → j < length l → getD (map f l) j c ≡ f (getD l j d)
+map-at f [] j d c h = absurd (omega arith)
+map-at f (x ∷ l) zero d c h = refl
+map-at f (x ∷ l) (suc j) d c h = map-at f l j d c (omega arith)
+
+pub member-length : {A : Type 0} {x : A} (l : List A) → x ∈ l → 1 ≤ length l
+member-length [] m = absurd (List·Memᴰ·not-nil m)
+member-length (y ∷ l) m = omega arith

@@ -1,0 +1,3 @@
+pub mod LevelModel
+pub mod Model
+pub mod OnSheet
