@@ -4,6 +4,7 @@ ghost use Prim.Native.Nat.{_≤_};
 use answers::Answer;
 use libc::STDOUT_FILENO;
 use meeting::Met;
+use sets::Set;
 
 fn text(t: &[u8]) {
     io::write_all(STDOUT_FILENO, t);
@@ -115,6 +116,12 @@ fn held(sets: &[u64], entries: &[u32], smallest: &[u64], unions: &[u64]) {
     text(b", tables written\n");
 }
 
+fn asked(label: &[u8], k: usize, slots: usize) {
+    text(label);
+    number(b", k ", k as u64);
+    number(b", slots ", slots as u64);
+}
+
 fn listing_in(
     sheet: &[u8],
     k: usize,
@@ -134,10 +141,8 @@ fn listing_in(
 fn listing(label: &[u8], sheet: &[u8], k: usize, t: u16, n: usize, m: usize, o: usize)
     requires { ⌜ (n ≤ 1000) × (m ≤ 1000) × (o ≤ 40) ⌝ }
 {
-    text(label);
-    number(b", k ", k as u64);
-    number(b" t ", t as u64);
-    number(b", slots ", n as u64);
+    asked(label, k, n);
+    number(b", t ", t as u64);
     text(b": ");
     let mut sets = [9u64; 1000];
     let mut entries = [9u32; 1000];
@@ -156,8 +161,35 @@ fn listing(label: &[u8], sheet: &[u8], k: usize, t: u16, n: usize, m: usize, o: 
     );
 }
 
-// The meeting weight of a and b, by the maximal-clique run or by the sequential run.
+fn pair(a: u64, b: u64, by_maximal: bool) {
+    number(b", ", a);
+    number(b" and ", b);
+    if by_maximal {
+        text(b", maximal: ");
+    } else {
+        text(b", sequential: ");
+    }
+}
+
+// The meeting weight of a and b by the maximal-clique run or by the sequential run.
 fn meet_in(
+    sheet: &[u8],
+    k: usize,
+    a: Set,
+    b: Set,
+    by_maximal: bool,
+    sets: &mut [u64],
+    entries: &mut [u32],
+    smallest: &mut [u64],
+    unions: &mut [u64],
+) -> Met {
+    if by_maximal {
+        return meeting::by_maximal(sheet, k, a, b, sets, entries, smallest, unions);
+    }
+    meeting::by_sequential(sheet, k, a, b, sets, entries, smallest, unions)
+}
+
+fn met_in(
     sheet: &[u8],
     k: usize,
     a: u64,
@@ -168,14 +200,17 @@ fn meet_in(
     smallest: &mut [u64],
     unions: &mut [u64],
 ) {
-    let s = sets::from_word(a);
-    let t = sets::from_word(b);
-    if by_maximal {
-        met(meeting::by_maximal(sheet, k, s, t, sets, entries, smallest, unions));
-        held(sets, entries, smallest, unions);
-        return;
-    }
-    met(meeting::by_sequential(sheet, k, s, t, sets, entries, smallest, unions));
+    met(meet_in(
+        sheet,
+        k,
+        sets::from_word(a),
+        sets::from_word(b),
+        by_maximal,
+        sets,
+        entries,
+        smallest,
+        unions,
+    ));
     held(sets, entries, smallest, unions);
 }
 
@@ -183,22 +218,13 @@ fn meet_in(
 fn meet(label: &[u8], sheet: &[u8], k: usize, a: u64, b: u64, by_maximal: bool, n: usize, m: usize)
     requires { ⌜ (n ≤ 1000) × (m ≤ 1000) ⌝ }
 {
-    text(label);
-    number(b", k ", k as u64);
-    number(b", ", a);
-    number(b" and ", b);
-    if by_maximal {
-        text(b", maximal");
-    } else {
-        text(b", sequential");
-    }
-    number(b", slots ", n as u64);
-    text(b": ");
+    asked(label, k, n);
+    pair(a, b, by_maximal);
     let mut sets = [9u64; 1000];
     let mut entries = [9u32; 1000];
     let mut smallest = [9u64; 1000];
     let mut unions = [9u64; 1000];
-    meet_in(
+    met_in(
         sheet,
         k,
         a,
@@ -258,7 +284,7 @@ fn eighth(sheet: &[u8]) {
     both(b"P8", sheet, 3, 7, 28, 7, 3);
     listing(b"P8", sheet, 3, 4, 2, 2, 40);
     listing(b"P8", sheet, 1, 2, 3, 3, 40);
-    listing(b"P8", sheet, 7, 2, 3, 2, 40);
+    listing(b"P8, unequal tables", sheet, 7, 2, 3, 2, 40);
     listing(b"P8, unequal tables", sheet, 3, 2, 3, 2, 40);
     listing(b"P8, a slot too few", sheet, 3, 2, 2, 2, 40);
     listing(b"P8, a slot too few and no output", sheet, 3, 2, 2, 2, 0);
@@ -276,14 +302,36 @@ fn no_cliques(sheet: &[u8]) {
     both(b"P8, part 63", sheet, 3, 9223372036854775811, 7, 7, 3);
     both(b"P8, no clique and a slot too few", sheet, 3, 7, 11, 6, 2);
     both(b"P8, no clique", sheet, 7, 7, 11, 7, 3);
-    meet(b"P8, unequal tables", sheet, 3, 7, 11, false, 7, 6);
-    meet(b"P8, unequal tables", sheet, 3, 7, 11, true, 2, 3);
-    let twice = b"PLS\x00\x01\x03\x00\x02\
+    meet(
+        b"P8, no clique, unequal tables",
+        sheet,
+        3,
+        7,
+        11,
+        false,
+        7,
+        6,
+    );
+    meet(
+        b"P8, no clique, unequal tables",
+        sheet,
+        3,
+        7,
+        11,
+        true,
+        2,
+        3,
+    );
+}
+
+// A faulty sheet.
+fn twice() {
+    let sheet = b"PLS\x00\x01\x03\x00\x02\
         A       B       C       \
         \x00\x01\x00\x05\x00\x01\x00\x05";
-    listing(b"0-1 of 5 twice", twice, 3, 1, 4, 4, 40);
-    listing(b"0-1 of 5 twice", twice, 7, 1, 4, 4, 40);
-    both(b"0-1 of 5 twice", twice, 2, 3, 5, 4, 4);
+    listing(b"0-1 of 5 twice", sheet, 3, 1, 4, 4, 40);
+    listing(b"0-1 of 5 twice", sheet, 7, 1, 4, 4, 40);
+    both(b"0-1 of 5 twice", sheet, 2, 3, 5, 4, 4);
 }
 
 // 15 of a meeting weight: of all links or any level, also below the meeting, and where a level above has more maximal cliques than the whole sheet.
@@ -321,6 +369,7 @@ fn groups() -> [u8; 8332] {
         let high = (i % 64) as u8;
         i += 1;
         if low / 3 < high / 3 {
+            // always so: the proof counts no links
             if at < 8329 {
                 s[at] = low;
                 s[at + 1] = high;
@@ -342,6 +391,7 @@ fn main() {
     eighth(sheet);
     more_examples();
     no_cliques(sheet);
+    twice();
     levels();
     let many = groups();
     listing(b"groups of three", &many, 3, 4, 1000, 1000, 40);

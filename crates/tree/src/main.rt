@@ -20,40 +20,47 @@ fn refused(n: u8, place: usize) {
     text(b"\n");
 }
 
+fn wide(b: u8) -> u64 {
+    b as u64
+}
+
 // The byte at i; 0 past the end.
 fn byte_at(bytes: &[u8], i: usize) -> u64 {
-    if i < bytes.len() { bytes[i] as u64 } else { 0 }
+    if i < bytes.len() { wide(bytes[i]) } else { 0 }
 }
 
-// The number of two bytes, and of four, high byte first.
-fn two(bytes: &[u8], at: usize) -> u64 {
-    byte_at(bytes, at) * 256 + byte_at(bytes, at + 1)
+// The number of two bytes, and of four, the high one first.
+fn two(a: u64, b: u64) -> u64 {
+    a << 8 | b
 }
 
-fn four(bytes: &[u8], at: usize) -> u64 {
-    two(bytes, at) * 65536 + two(bytes, at + 2)
+fn four(a: u64, b: u64, c: u64, d: u64) -> u64 {
+    two(two(two(a, b), c), d)
 }
 
 // A line's fields, its number first.
-fn row(line: &[u8], n: u64) {
+fn row(x: &[u8], n: u64) {
     field(b"line ", n);
-    field(b" weight ", two(line, 0));
-    field(b" joins ", four(line, 2));
-    field(b" into ", four(line, 6));
-    field(b" smallest ", sets::word(sets::from_bytes(line, 10)));
-    field(b" parts ", sets::word(sets::from_bytes(line, 18)));
+    field(b" weight ", two(byte_at(x, 0), byte_at(x, 1)));
+    let joins = four(byte_at(x, 2), byte_at(x, 3), byte_at(x, 4), byte_at(x, 5));
+    field(b" joins ", joins);
+    let into = four(byte_at(x, 6), byte_at(x, 7), byte_at(x, 8), byte_at(x, 9));
+    field(b" into ", into);
+    field(b" smallest ", sets::word(sets::from_bytes(x, 10)));
+    field(b" parts ", sets::word(sets::from_bytes(x, 18)));
     text(b"\n");
 }
 
 fn rows(out: &[u8], lines: usize) {
+    let mut at = 0;
     let mut i = 0;
     while i < lines {
-        let at = 26 * i;
-        if out.len() < at {
+        if out.len() - at < 26 {
             return;
         }
-        row(&out[at..], i as u64 + 1);
         i += 1;
+        row(&out[at..], i as u64);
+        at += 26;
     }
 }
 

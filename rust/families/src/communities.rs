@@ -1,0 +1,130 @@
+//! Communities of a sheet: listings, meeting weights and the merge tree.
+
+use crate::lent::{self, Run};
+use crate::refused::Refused;
+use crate::sheet::claimed_parts;
+use crate::tables::{slot_bound_or_none, Space, Tables};
+
+const LISTING_BYTES: usize = 16;
+const LINE_BYTES: usize = 26;
+
+/// A community: its smallest k-clique and the union of its parts, both as
+/// sets with bit q for part q.
+#[derive(Clone, Copy, Debug, PartialEq, Eq)]
+pub struct Community {
+    pub smallest: u64,
+    pub union: u64,
+}
+
+/// Where two k-cliques come together.
+#[derive(Clone, Copy, Debug, PartialEq, Eq)]
+pub enum Meeting {
+    /// The largest threshold at which a chain joins them.
+    At(u16),
+    Never,
+}
+
+/// A line of the merge tree. Lines are numbered from 1 in their order.
+#[derive(Clone, Copy, Debug, PartialEq, Eq)]
+pub struct Line {
+    pub weight: u16,
+    pub joins: u32,
+    /// The number of the line that this one goes into.
+    pub into: Option<u32>,
+    pub smallest: u64,
+    pub union: u64,
+}
+
+/// The communities of a listing's bytes; bytes after the last whole one are
+/// left alone.
+pub fn decode_listing(bytes: &[u8]) -> Vec<Community> {
+    bytes
+        .chunks_exact(LISTING_BYTES)
+        .map(|bytes| Community {
+            smallest: number(&bytes[..8]),
+            union: number(&bytes[8..]),
+        })
+        .collect()
+}
+
+/// The lines of a merge tree's bytes; bytes after the last whole one are
+/// left alone.
+pub fn decode_tree(bytes: &[u8]) -> Vec<Line> {
+    bytes.chunks_exact(LINE_BYTES).map(decode_line).collect()
+}
+
+fn decode_line(bytes: &[u8]) -> Line {
+    let into = number(&bytes[6..10]) as u32;
+    Line {
+        weight: number(&bytes[..2]) as u16,
+        joins: number(&bytes[2..6]) as u32,
+        into: (into != 0).then_some(into),
+        smallest: number(&bytes[10..18]),
+        union: number(&bytes[18..26]),
+    }
+}
+
+fn number(bytes: &[u8]) -> u64 {
+    bytes.iter().fold(0, |n, &byte| n << 8 | u64::from(byte))
+}
+
+/// The most communities there can be: each has k slots or more to itself.
+pub(crate) fn most_communities(slots: usize, k: usize) -> usize {
+    slots.checked_div(k).unwrap_or(0)
+}
+
+pub(crate) fn listing_space(communities: usize) -> Vec<u8> {
+    vec![0; LISTING_BYTES * communities]
+}
+
+pub(crate) fn listing_in(mut out: Vec<u8>, communities: usize) -> Vec<Community> {
+    out.truncate(LISTING_BYTES * communities);
+    decode_listing(&out)
+}
+
+/// The communities over links of weight t or more.
+pub fn listing(
+    run: Run,
+    sheet: &[u8],
+    k: usize,
+    t: u16,
+    space: Space,
+) -> Result<Vec<Community>, Refused> {
+    let p = claimed_parts(sheet);
+    let slots = space.slots(run, p, k);
+    let mut tables = Tables::new(slots);
+    let most = most_communities(slot_bound_or_none(p, k), k).min(slots);
+    let mut out = listing_space(most);
+    let outcome = lent::listing(run, sheet, k, t, tables.as_mut(), &mut out).accepted()?;
+    Ok(listing_in(out, outcome.count))
+}
+
+/// The meeting weight of two k-cliques.
+pub fn meeting(
+    run: Run,
+    sheet: &[u8],
+    k: usize,
+    a: u64,
+    b: u64,
+    space: Space,
+) -> Result<Meeting, Refused> {
+    let mut tables = Tables::new(space.slots(run, claimed_parts(sheet), k));
+    let outcome = lent::meeting(run, sheet, k, a, b, tables.as_mut()).accepted()?;
+    Ok(match outcome.count {
+        0 => Meeting::Never,
+        weight => Meeting::At(weight as u16),
+    })
+}
+
+/// The merge tree's lines.
+pub fn tree(sheet: &[u8], k: usize, space: Space) -> Result<Vec<Line>, Refused> {
+    let slots = space.slots(Run::Sequential, claimed_parts(sheet), k);
+    let mut tables = Tables::new(slots);
+    // A line that joins takes the place of two or more, so with c
+    // communities at most c lines begin and at most c - 1 join.
+    let most = 2 * most_communities(slots, k);
+    let mut out = vec![0; LINE_BYTES * most];
+    let outcome = lent::tree(sheet, k, tables.as_mut(), &mut out).accepted()?;
+    out.truncate(LINE_BYTES * outcome.count);
+    Ok(decode_tree(&out))
+}

@@ -1,0 +1,237 @@
+//! The calls of the C interface one by one, over space that the caller
+//! lends. Each answers with the library's own outcome.
+//!
+//! Every call is safe for any arguments: the library is total, a Rust slice
+//! is never null and always aligned, and a slice that the library writes is
+//! borrowed mutably, so that it overlaps no other.
+
+use crate::ffi;
+use crate::refused::Refused;
+use crate::tables::{TablesMut, TablesRef};
+
+pub use crate::ffi::{Outcome, Started, State};
+
+/// Which of the two runs a call goes through.
+#[derive(Clone, Copy, Debug, PartialEq, Eq)]
+pub enum Run {
+    Sequential,
+    Maximal,
+}
+
+impl Outcome {
+    /// The outcome if it is accepted, else the refusal in it.
+    pub fn accepted(self) -> Result<Outcome, Refused> {
+        match self.number {
+            0 => Ok(self),
+            number => Err(Refused {
+                number,
+                place: self.place,
+            }),
+        }
+    }
+}
+
+/// Reads a sheet; `count` is the number of links, `parts` that of parts.
+pub fn read(
+    sheet: &[u8],
+    names: &mut [u8],
+    lower: &mut [u16],
+    higher: &mut [u16],
+    weights: &mut [u16],
+) -> Outcome {
+    unsafe {
+        ffi::families_read(
+            sheet.as_ptr(),
+            sheet.len(),
+            names.as_mut_ptr(),
+            names.len(),
+            lower.as_mut_ptr(),
+            lower.len(),
+            higher.as_mut_ptr(),
+            higher.len(),
+            weights.as_mut_ptr(),
+            weights.len(),
+        )
+    }
+}
+
+/// Writes a network as a sheet; `count` is its length in bytes.
+pub fn write(
+    names: &[u8],
+    lower: &[u16],
+    higher: &[u16],
+    weights: &[u16],
+    out: &mut [u8],
+) -> Outcome {
+    unsafe {
+        ffi::families_write(
+            names.as_ptr(),
+            names.len(),
+            lower.as_ptr(),
+            lower.len(),
+            higher.as_ptr(),
+            higher.len(),
+            weights.as_ptr(),
+            weights.len(),
+            out.as_mut_ptr(),
+            out.len(),
+        )
+    }
+}
+
+/// Finds a part's name; `count` is where its eight bytes start.
+pub fn name(sheet: &[u8], part: usize) -> Outcome {
+    unsafe { ffi::families_name(sheet.as_ptr(), sheet.len(), part) }
+}
+
+/// The slot bound of p and k, in `count`.
+pub fn slot_bound(p: usize, k: usize) -> Outcome {
+    unsafe { ffi::families_slot_bound(p, k) }
+}
+
+/// C(n, r) in `count`, 0 outside the table.
+pub fn subset_count(n: usize, r: usize) -> Outcome {
+    unsafe { ffi::families_subset_count(n, r) }
+}
+
+/// Starts a sequential run; a refused start gives a state of zeros.
+pub fn start(p: usize, k: usize, tables: TablesMut) -> Started {
+    unsafe {
+        ffi::families_start(
+            p,
+            k,
+            tables.sets.as_mut_ptr(),
+            tables.sets.len(),
+            tables.entries.as_mut_ptr(),
+            tables.entries.len(),
+            tables.smallest.as_mut_ptr(),
+            tables.smallest.len(),
+            tables.unions.as_mut_ptr(),
+            tables.unions.len(),
+        )
+    }
+}
+
+/// Adds a link. A refused insert gives back its state and leaves the tables.
+pub fn insert(
+    state: State,
+    tables: TablesMut,
+    lower: usize,
+    higher: usize,
+    weight: u16,
+) -> Started {
+    unsafe {
+        ffi::families_insert(
+            state,
+            tables.sets.as_mut_ptr(),
+            tables.sets.len(),
+            tables.entries.as_mut_ptr(),
+            tables.entries.len(),
+            tables.smallest.as_mut_ptr(),
+            tables.smallest.len(),
+            tables.unions.as_mut_ptr(),
+            tables.unions.len(),
+            lower,
+            higher,
+            weight,
+        )
+    }
+}
+
+/// The listing of the links so far; `count` is the number of communities.
+pub fn listing_now(state: State, tables: TablesRef, out: &mut [u8]) -> Outcome {
+    unsafe {
+        ffi::families_listing_now(
+            state,
+            tables.sets.as_ptr(),
+            tables.sets.len(),
+            tables.entries.as_ptr(),
+            tables.entries.len(),
+            tables.smallest.as_ptr(),
+            tables.smallest.len(),
+            tables.unions.as_ptr(),
+            tables.unions.len(),
+            out.as_mut_ptr(),
+            out.len(),
+        )
+    }
+}
+
+/// The listing of a sheet at t; `count` is the number of communities.
+pub fn listing(
+    run: Run,
+    sheet: &[u8],
+    k: usize,
+    t: u16,
+    tables: TablesMut,
+    out: &mut [u8],
+) -> Outcome {
+    let call = match run {
+        Run::Sequential => ffi::families_listing_sequential,
+        Run::Maximal => ffi::families_listing_maximal,
+    };
+    unsafe {
+        call(
+            sheet.as_ptr(),
+            sheet.len(),
+            k,
+            t,
+            tables.sets.as_mut_ptr(),
+            tables.sets.len(),
+            tables.entries.as_mut_ptr(),
+            tables.entries.len(),
+            tables.smallest.as_mut_ptr(),
+            tables.smallest.len(),
+            tables.unions.as_mut_ptr(),
+            tables.unions.len(),
+            out.as_mut_ptr(),
+            out.len(),
+        )
+    }
+}
+
+/// The meeting weight of two k-cliques in `count`, 0 for never.
+pub fn meeting(run: Run, sheet: &[u8], k: usize, a: u64, b: u64, tables: TablesMut) -> Outcome {
+    let call = match run {
+        Run::Sequential => ffi::families_meeting_sequential,
+        Run::Maximal => ffi::families_meeting_maximal,
+    };
+    unsafe {
+        call(
+            sheet.as_ptr(),
+            sheet.len(),
+            k,
+            a,
+            b,
+            tables.sets.as_mut_ptr(),
+            tables.sets.len(),
+            tables.entries.as_mut_ptr(),
+            tables.entries.len(),
+            tables.smallest.as_mut_ptr(),
+            tables.smallest.len(),
+            tables.unions.as_mut_ptr(),
+            tables.unions.len(),
+        )
+    }
+}
+
+/// The merge tree; `count` is the number of lines.
+pub fn tree(sheet: &[u8], k: usize, tables: TablesMut, out: &mut [u8]) -> Outcome {
+    unsafe {
+        ffi::families_tree(
+            sheet.as_ptr(),
+            sheet.len(),
+            k,
+            tables.sets.as_mut_ptr(),
+            tables.sets.len(),
+            tables.entries.as_mut_ptr(),
+            tables.entries.len(),
+            tables.smallest.as_mut_ptr(),
+            tables.smallest.len(),
+            tables.unions.as_mut_ptr(),
+            tables.unions.len(),
+            out.as_mut_ptr(),
+            out.len(),
+        )
+    }
+}

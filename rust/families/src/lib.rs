@@ -1,0 +1,35 @@
+//! Families of parts that fail together: link sheets, k-clique percolation,
+//! meeting weights and the merge tree, by the proved library behind its C
+//! interface.
+//!
+//! The functions here make their own tables and outputs; those of [`lent`]
+//! take the caller's. A refusal is [`Refused`], with a number, a place and a
+//! sentence.
+
+mod communities;
+mod ffi;
+pub mod lent;
+mod refused;
+mod sequential;
+mod sheet;
+mod tables;
+
+pub use communities::{
+    decode_listing, decode_tree, listing, meeting, tree, Community, Line, Meeting,
+};
+pub use lent::Run;
+pub use refused::Refused;
+pub use sequential::Sequential;
+pub use sheet::{name, read, write, Network};
+pub use tables::{Space, Tables, TablesMut, TablesRef, MOST_SLOTS};
+
+/// The most slots that the sequential run can need for p parts: C(p, k-1),
+/// or none where p is below k.
+pub fn slot_bound(p: usize, k: usize) -> Result<usize, Refused> {
+    lent::slot_bound(p, k).accepted().map(|o| o.count)
+}
+
+/// C(n, r) for n 0 to 64 and r 0 to 6, and 0 outside the table.
+pub fn subset_count(n: usize, r: usize) -> usize {
+    lent::subset_count(n, r).count
+}

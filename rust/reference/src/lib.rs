@@ -1,0 +1,20 @@
+//! A second implementation of link sheets, k-clique percolation, meeting
+//! weights and the merge tree, written from the requirement alone, for
+//! comparison with the library.
+//!
+//! - [`definition`]: the definitions as they stand, over all sets of parts,
+//!   for small part counts.
+//! - [`fast`]: bit sets and hashing, for up to 64 parts.
+//! - [`calls`], [`sheets`], [`steps`]: every check in its order, and so the
+//!   expected answer, output and tables of every call.
+//! - [`published`]: published networks with their expected families.
+
+pub mod calls;
+pub mod definition;
+pub mod fast;
+mod json;
+pub mod network;
+pub mod published;
+pub mod random;
+pub mod sheets;
+pub mod steps;

@@ -1,0 +1,125 @@
+//! Times of the library and of the reference on test sheets, with their
+//! ratio: both listings at t 1 and the merge tree.
+//!
+//! The first argument gives the most slots or maximal cliques of a row.
+
+use std::env;
+use std::hint::black_box;
+use std::time::{Duration, Instant};
+
+use families::{lent, Run, Tables};
+use reference::fast;
+use reference::network::Network;
+use reference::sheets::sheet_bytes;
+use trials::sheets::bench_network;
+
+const DEFAULT_LIMIT: usize = 20_000;
+const TIMES: usize = 5;
+
+/// The best times of two pieces of work, taken in turns.
+fn best(mut library: impl FnMut(), mut reference: impl FnMut()) -> (Duration, Duration) {
+    let time = |work: &mut dyn FnMut()| {
+        let begun = Instant::now();
+        work();
+        begun.elapsed()
+    };
+    let mut best = (Duration::MAX, Duration::MAX);
+    for _ in 0..TIMES {
+        best.0 = best.0.min(time(&mut library));
+        best.1 = best.1.min(time(&mut reference));
+    }
+    best
+}
+
+fn show((library, reference): (Duration, Duration)) -> String {
+    let ms = |time: Duration| time.as_secs_f64() * 1e3;
+    let ratio = library.as_secs_f64() / reference.as_secs_f64().max(1e-9);
+    format!(
+        " | {:>10.3} {:>10.3} {ratio:>8.2}",
+        ms(library),
+        ms(reference)
+    )
+}
+
+/// The times of one listing.
+fn listing(network: &Network, k: usize, run: Run, slots: usize) -> String {
+    let (p, links) = (network.names.len(), &network.links[..]);
+    let sheet = sheet_bytes(network);
+    let mut tables = Tables::new(slots);
+    let mut out = vec![0; 16 * fast::listing(links, p, k, 1).len()];
+    let times = best(
+        || {
+            let outcome = lent::listing(run, &sheet, k, 1, tables.as_mut(), &mut out);
+            assert_eq!(outcome.number, 0, "refused");
+        },
+        || match run {
+            Run::Sequential => drop(black_box(fast::listing(links, p, k, 1))),
+            Run::Maximal => drop(black_box(fast::listing_by_maximal(links, p, k, 1, slots))),
+        },
+    );
+    show(times)
+}
+
+/// The times of the merge tree.
+fn tree(network: &Network, k: usize, slots: usize) -> String {
+    let (p, links) = (network.names.len(), &network.links[..]);
+    let sheet = sheet_bytes(network);
+    let mut tables = Tables::new(slots);
+    let mut out = vec![0; 26 * fast::tree(links, p, k).len()];
+    let times = best(
+        || {
+            let outcome = lent::tree(&sheet, k, tables.as_mut(), &mut out);
+            assert_eq!(outcome.number, 0, "refused");
+        },
+        || drop(black_box(fast::tree(links, p, k))),
+    );
+    show(times)
+}
+
+fn row(p: usize, density: u64, k: usize, limit: usize) {
+    let network = bench_network(1, p, density);
+    let slots = fast::classes(&network.links, p, k, 1).slot_count();
+    let rows = fast::rows(&network.links, 1);
+    let maximal = fast::maximal_cliques(&rows, p, k, limit).len();
+    // The search for maximal cliques stops at the limit.
+    let counted = match maximal > limit {
+        true => format!(">{limit}"),
+        false => maximal.to_string(),
+    };
+    print!("{p:>3} {density:>4} {k:>2} {slots:>8} {counted:>8}");
+    if slots > limit || maximal > limit {
+        return println!(" | above the limit");
+    }
+    print!("{}", listing(&network, k, Run::Sequential, slots));
+    print!("{}", listing(&network, k, Run::Maximal, maximal));
+    println!("{}", tree(&network, k, slots));
+}
+
+fn main() {
+    let limit = env::args()
+        .nth(1)
+        .map_or(DEFAULT_LIMIT, |text| text.parse().expect("a number"));
+    println!("best of {TIMES} in ms: library, reference, ratio");
+    println!("rows with more than {limit} slots or maximal cliques are left out");
+    let column = format!(" | {:>10} {:>10} {:>8}", "library", "reference", "ratio");
+    println!(
+        "{:>28} | {:<30} | {:<30} | {:<30}",
+        "", "sequential", "maximal", "tree"
+    );
+    println!(
+        "{:>3} {:>4} {:>2} {:>8} {:>8}{}",
+        "p",
+        "d",
+        "k",
+        "slots",
+        "maximal",
+        column.repeat(3)
+    );
+    for p in [32, 64] {
+        for density in [20, 50, 80, 100] {
+            for k in 3..=5 {
+                row(p, density, k, limit);
+            }
+        }
+    }
+}
