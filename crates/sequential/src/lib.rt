@@ -17,6 +17,7 @@ use answers::Answer;
 use sheet::Checked;
 
 // What goes from step to step beside the tables: p, k, how many slots are used, the last weight (65,535 with no link), and the neighbours of each part.
+#[repr(C)]
 pub struct State {
     pub p: usize,
     pub k: usize,

@@ -1,0 +1,2 @@
+-- Laws that the proofs of several calls use.
+mod Meetings

@@ -1,0 +1,311 @@
+// The C interface: each call as the crates below have it, with numbers, slices and structs of numbers only. include/families.h declares it.
+ghost use mathlib.Core.Path.{_≡_};
+ghost use lib.ListN.{length};
+ghost use Rattle.answers.specs.Answers.{says, sayOf};
+ghost use Rattle.answers.specs.Verdict.{written};
+ghost use Rattle.percolation.specs.Links.{link};
+ghost use Rattle.sheet.specs.Answers.{sheetSays, sheetSay, foundSays, writtenNetwork, checkPart};
+ghost use Rattle.sheet.specs.Sheet.{nameAt};
+ghost use Rattle.sheet.specs.Network.{network, networkOf, sheetOf, checkRead, checkWrite};
+ghost use Rattle.subsets.specs.Subsets.{tableCount, slotBound, checkBound};
+ghost use Rattle.slots.specs.Tables.{tables};
+ghost use Rattle.runs.specs.Lent.{lent, checkCall, left};
+ghost use Rattle.runs.specs.OnSheet.{slotsFor, maximalsFor, ListingMeets};
+ghost use Rattle.sequential.specs.Steps.{StartMeets, InsertMeets, ListingNowMeets};
+ghost use Rattle.meeting.specs.Answers.{meetSays, meetSay, meetingOf, checkPair, checkSequential, checkMaximal};
+ghost use Rattle.merge_tree.specs.OnSheet.{checkTree, treeOf};
+ghost use Rattle.percolation.specs.Tree.{treeBytes};
+ghost use Rattle.families_c.specs.Outcomes.{outcome, shown, sheetShown, meetShown, Shows, ShowsStep};
+use answers::Answer;
+use meeting::Met;
+use sequential::State;
+use sequential::Stepped;
+use sheet::Checked;
+use sheet::Found;
+
+// What a call answers: number 0 with what it counts, or a refusal's number and place.
+#[repr(C)]
+pub struct Outcome {
+    pub number: u8,
+    pub place: usize,
+    pub count: usize,
+    pub parts: usize,
+}
+
+// What a step gives back: its outcome, and the state for the next one.
+#[repr(C)]
+pub struct Started {
+    pub outcome: Outcome,
+    pub state: State,
+}
+
+fn counted(count: usize, parts: usize) -> Outcome
+    ensures { λ r. ⌜ r ≡ outcome 0 0 count parts ⌝ }
+{
+    Outcome {
+        number: 0,
+        place: 0,
+        count,
+        parts,
+    }
+}
+
+fn refused(number: u8, place: usize) -> Outcome
+    ensures { λ r. ⌜ r ≡ outcome number place 0 0 ⌝ }
+{
+    Outcome {
+        number,
+        place,
+        count: 0,
+        parts: 0,
+    }
+}
+
+fn of_answer(answer: Answer) -> Outcome
+    ensures { λ r. ⌜ r ≡ shown (says answer) ⌝ }
+{
+    match answer {
+        Answer::Count(n) => counted(n, 0),
+        Answer::Refused(n, a) => refused(n, a),
+    }
+}
+
+fn of_sheet(checked: Checked) -> Outcome
+    ensures { λ r. ⌜ r ≡ sheetShown (sheetSays checked) ⌝ }
+{
+    match checked {
+        Checked::Fine(p, m) => counted(m, p),
+        Checked::Faulty(n, a) => refused(n, a),
+    }
+}
+
+fn of_name(found: Found) -> Outcome
+    ensures { λ r. ⌜ r ≡ shown (foundSays found) ⌝ }
+{
+    match found {
+        Found::At(a) => counted(a, 0),
+        Found::Missing(n, a) => refused(n, a),
+    }
+}
+
+fn of_meeting(met: Met) -> Outcome
+    ensures { λ r. ⌜ r ≡ meetShown (meetSays met) ⌝ }
+{
+    match met {
+        Met::Weight(w) => counted(w as usize, 0),
+        Met::Never => counted(0, 0),
+        Met::Refused(n, a) => refused(n, a),
+    }
+}
+
+fn of_step(step: Stepped) -> Started
+    ensures { λ r. ⌜ r .outcome ≡ shown (says (step .answer)) ⌝ }
+    ensures { λ r. ⌜ r .state ≡ step .state ⌝ }
+{
+    let answer = step.answer;
+    let state = step.state;
+    let outcome = of_answer(answer);
+    Started { outcome, state }
+}
+
+// sheet::read: count is the links, parts the parts.
+#[no_mangle]
+pub extern "C" fn families_read(
+    sheet: &[u8],
+    names: &mut [u8],
+    lower: &mut [u16],
+    higher: &mut [u16],
+    weights: &mut [u16],
+) -> Outcome
+    ensures { λ r. ⌜ r ≡ sheetShown (sheetSay (checkRead (now (sheet .entry)) (network (now (names .entry)) (now (lower .entry)) (now (higher .entry)) (now (weights .entry)))) (now (sheet .entry))) ⌝ }
+    ensures { λ _. ⌜ network (now (names .exit)) (now (lower .exit)) (now (higher .exit)) (now (weights .exit)) ≡ writtenNetwork (checkRead (now (sheet .entry)) (network (now (names .entry)) (now (lower .entry)) (now (higher .entry)) (now (weights .entry)))) (networkOf (now (sheet .entry))) (network (now (names .entry)) (now (lower .entry)) (now (higher .entry)) (now (weights .entry))) ⌝ }
+{
+    of_sheet(sheet::read(sheet, names, lower, higher, weights))
+}
+
+// sheet::write: count is the bytes.
+#[no_mangle]
+pub extern "C" fn families_write(
+    names: &[u8],
+    lower: &[u16],
+    higher: &[u16],
+    weights: &[u16],
+    out: &mut [u8],
+) -> Outcome
+    ensures { λ r. ⌜ r ≡ shown (sayOf (checkWrite (network (now (names .entry)) (now (lower .entry)) (now (higher .entry)) (now (weights .entry))) (length (now (out .entry)))) (length (sheetOf (network (now (names .entry)) (now (lower .entry)) (now (higher .entry)) (now (weights .entry)))))) ⌝ }
+    ensures { λ _. ⌜ now (out .exit) ≡ written (checkWrite (network (now (names .entry)) (now (lower .entry)) (now (higher .entry)) (now (weights .entry))) (length (now (out .entry)))) (sheetOf (network (now (names .entry)) (now (lower .entry)) (now (higher .entry)) (now (weights .entry)))) (now (out .entry)) ⌝ }
+{
+    of_answer(sheet::write(names, lower, higher, weights, out))
+}
+
+// sheet::find_name: count is where the eight bytes of the part's name start in the sheet.
+#[no_mangle]
+pub extern "C" fn families_name(sheet: &[u8], part: usize) -> Outcome
+    ensures { λ r. ⌜ r ≡ shown (sayOf (checkPart (now (sheet .entry)) part) (nameAt (now (sheet .entry)) part)) ⌝ }
+{
+    of_name(sheet::find_name(sheet, part))
+}
+
+// subsets::slot_bound: count is the bound.
+#[no_mangle]
+pub extern "C" fn families_slot_bound(p: usize, k: usize) -> Outcome
+    ensures { λ o. ⌜ o ≡ shown (sayOf (checkBound p k) (slotBound p k)) ⌝ }
+{
+    of_answer(subsets::slot_bound(p, k))
+}
+
+// subsets::subset_count: count is C(n, r), 0 outside the table.
+#[no_mangle]
+pub extern "C" fn families_subset_count(n: usize, r: usize) -> Outcome
+    ensures { λ o. ⌜ o ≡ outcome 0 0 (tableCount n r) 0 ⌝ }
+{
+    counted(subsets::subset_count(n, r), 0)
+}
+
+// sequential::start: count is 0.
+#[no_mangle]
+pub extern "C" fn families_start(
+    p: usize,
+    k: usize,
+    sets: &mut [u64],
+    entries: &mut [u32],
+    smallest: &mut [u64],
+    unions: &mut [u64],
+) -> Started
+    ensures { λ r. ⌜ ShowsStep (λ s. StartMeets p k (lent (now (sets .entry)) (now (entries .entry)) (now (smallest .entry)) (now (unions .entry))) s (lent (now (sets .exit)) (now (entries .exit)) (now (smallest .exit)) (now (unions .exit)))) r ⌝ }
+{
+    of_step(sequential::start(p, k, sets, entries, smallest, unions))
+}
+
+// sequential::insert: count is 0.
+#[no_mangle]
+pub extern "C" fn families_insert(
+    state: State,
+    sets: &mut [u64],
+    entries: &mut [u32],
+    smallest: &mut [u64],
+    unions: &mut [u64],
+    lower: usize,
+    higher: usize,
+    weight: u16,
+) -> Started
+    ensures { λ r. ⌜ ShowsStep (λ s. InsertMeets state (tables (now (sets .entry)) (now (entries .entry)) (now (smallest .entry)) (now (unions .entry)) (state .used)) (link lower higher weight) s (tables (now (sets .exit)) (now (entries .exit)) (now (smallest .exit)) (now (unions .exit)) (s .state .used))) r ⌝ }
+{
+    of_step(sequential::insert(
+        state,
+        sets,
+        entries,
+        smallest,
+        unions,
+        lower,
+        higher,
+        weight,
+    ))
+}
+
+// sequential::listing_now: count is the communities.
+#[no_mangle]
+pub extern "C" fn families_listing_now(
+    state: State,
+    sets: &[u64],
+    entries: &[u32],
+    smallest: &[u64],
+    unions: &[u64],
+    out: &mut [u8],
+) -> Outcome
+    ensures { λ r. ⌜ Shows (λ a. ListingNowMeets state (tables (now (sets .entry)) (now (entries .entry)) (now (smallest .entry)) (now (unions .entry)) (state .used)) (now (out .entry)) a (now (out .exit))) r ⌝ }
+{
+    of_answer(sequential::listing_now(state, sets, entries, smallest, unions, out))
+}
+
+// sequential::listing: count is the communities.
+#[no_mangle]
+pub extern "C" fn families_listing_sequential(
+    sheet: &[u8],
+    k: usize,
+    t: u16,
+    sets: &mut [u64],
+    entries: &mut [u32],
+    smallest: &mut [u64],
+    unions: &mut [u64],
+    out: &mut [u8],
+) -> Outcome
+    ensures { λ r. ⌜ Shows (λ a. ListingMeets (slotsFor (now (sheet .entry)) k t) (now (sheet .entry)) k t (lent (now (sets .entry)) (now (entries .entry)) (now (smallest .entry)) (now (unions .entry))) (now (out .entry)) a (lent (now (sets .exit)) (now (entries .exit)) (now (smallest .exit)) (now (unions .exit))) (now (out .exit))) r ⌝ }
+{
+    of_answer(sequential::listing(sheet, k, t, sets, entries, smallest, unions, out))
+}
+
+// maximal::listing: count is the communities.
+#[no_mangle]
+pub extern "C" fn families_listing_maximal(
+    sheet: &[u8],
+    k: usize,
+    t: u16,
+    sets: &mut [u64],
+    entries: &mut [u32],
+    smallest: &mut [u64],
+    unions: &mut [u64],
+    out: &mut [u8],
+) -> Outcome
+    ensures { λ r. ⌜ Shows (λ a. ListingMeets (maximalsFor (now (sheet .entry)) k t) (now (sheet .entry)) k t (lent (now (sets .entry)) (now (entries .entry)) (now (smallest .entry)) (now (unions .entry))) (now (out .entry)) a (lent (now (sets .exit)) (now (entries .exit)) (now (smallest .exit)) (now (unions .exit))) (now (out .exit))) r ⌝ }
+{
+    of_answer(maximal::listing(sheet, k, t, sets, entries, smallest, unions, out))
+}
+
+// meeting::by_sequential: count is the weight, 0 for never.
+#[no_mangle]
+pub extern "C" fn families_meeting_sequential(
+    sheet: &[u8],
+    k: usize,
+    a: u64,
+    b: u64,
+    sets: &mut [u64],
+    entries: &mut [u32],
+    smallest: &mut [u64],
+    unions: &mut [u64],
+) -> Outcome
+    ensures { λ r. ⌜ r ≡ meetShown (meetSay (checkSequential (now (sheet .entry)) k a b (lent (now (sets .entry)) (now (entries .entry)) (now (smallest .entry)) (now (unions .entry)))) (meetingOf (now (sheet .entry)) k a b)) ⌝ }
+    ensures { λ _. ⌜ lent (now (sets .exit)) (now (entries .exit)) (now (smallest .exit)) (now (unions .exit)) ≡ left (checkPair (now (sheet .entry)) k a b (lent (now (sets .entry)) (now (entries .entry)) (now (smallest .entry)) (now (unions .entry)))) (lent (now (sets .entry)) (now (entries .entry)) (now (smallest .entry)) (now (unions .entry))) ⌝ }
+{
+    let first = sets::from_word(a);
+    let second = sets::from_word(b);
+    of_meeting(meeting::by_sequential(sheet, k, first, second, sets, entries, smallest, unions))
+}
+
+// meeting::by_maximal: count is the weight, 0 for never.
+#[no_mangle]
+pub extern "C" fn families_meeting_maximal(
+    sheet: &[u8],
+    k: usize,
+    a: u64,
+    b: u64,
+    sets: &mut [u64],
+    entries: &mut [u32],
+    smallest: &mut [u64],
+    unions: &mut [u64],
+) -> Outcome
+    ensures { λ r. ⌜ r ≡ meetShown (meetSay (checkMaximal (now (sheet .entry)) k a b (lent (now (sets .entry)) (now (entries .entry)) (now (smallest .entry)) (now (unions .entry)))) (meetingOf (now (sheet .entry)) k a b)) ⌝ }
+    ensures { λ _. ⌜ lent (now (sets .exit)) (now (entries .exit)) (now (smallest .exit)) (now (unions .exit)) ≡ left (checkPair (now (sheet .entry)) k a b (lent (now (sets .entry)) (now (entries .entry)) (now (smallest .entry)) (now (unions .entry)))) (lent (now (sets .entry)) (now (entries .entry)) (now (smallest .entry)) (now (unions .entry))) ⌝ }
+{
+    let first = sets::from_word(a);
+    let second = sets::from_word(b);
+    of_meeting(meeting::by_maximal(sheet, k, first, second, sets, entries, smallest, unions))
+}
+
+// merge_tree::lines: count is the lines.
+#[no_mangle]
+pub extern "C" fn families_tree(
+    sheet: &[u8],
+    k: usize,
+    sets: &mut [u64],
+    entries: &mut [u32],
+    smallest: &mut [u64],
+    unions: &mut [u64],
+    out: &mut [u8],
+) -> Outcome
+    ensures { λ r. ⌜ r ≡ shown (sayOf (checkTree (now (sheet .entry)) k (lent (now (sets .entry)) (now (entries .entry)) (now (smallest .entry)) (now (unions .entry))) (length (now (out .entry)))) (length (treeOf (now (sheet .entry)) k))) ⌝ }
+    ensures { λ _. ⌜ now (out .exit) ≡ written (checkTree (now (sheet .entry)) k (lent (now (sets .entry)) (now (entries .entry)) (now (smallest .entry)) (now (unions .entry))) (length (now (out .entry)))) (treeBytes (treeOf (now (sheet .entry)) k)) (now (out .entry)) ⌝ }
+    ensures { λ _. ⌜ lent (now (sets .exit)) (now (entries .exit)) (now (smallest .exit)) (now (unions .exit)) ≡ left (checkCall (now (sheet .entry)) k (lent (now (sets .entry)) (now (entries .entry)) (now (smallest .entry)) (now (unions .entry)))) (lent (now (sets .entry)) (now (entries .entry)) (now (smallest .entry)) (now (unions .entry))) ⌝ }
+{
+    of_answer(merge_tree::lines(sheet, k, sets, entries, smallest, unions, out))
+}

@@ -1,0 +1,158 @@
+/*
+ * Part families by k-clique percolation: the C interface of the proved library.
+ *
+ * Link with libfamilies.a, which `make lib` writes. It needs memcpy and memset of the C library and nothing else,
+ * allocates no memory, keeps nothing between calls, and any call may be made at the same time in other threads.
+ *
+ * A slice is two arguments: the pointer, then the number of elements. A pointer is never null, also for no elements,
+ * is aligned for its type, and lent slices do not overlap. What a call only reads is `const`.
+ *
+ * The four tables are slices of one length: sets, joining entries, smallest cliques, unions. Their contents before a
+ * call on a sheet do not matter; such a call that comes as far as 15 leaves them zero. families_slot_bound says how
+ * many slots suffice.
+ *
+ * number 0 is accepted. Any other number is a refusal, which writes no output:
+ *    1 mark                2 version             3 length               4 part count not 1 to 64
+ *    5 a name's form       6 a link's parts      7 weight 0             8 weight above the link before
+ *    9 pair given before  10 k not 2 to 6       11 tables of unequal length
+ *   12 a state outside its ranges               13 a set that is no k-clique of the sheet
+ *   14 a part not below the part count          15 too few slots        16 an output too short
+ * place is a byte of the sheet for 1 to 9 of a call that reads a sheet, else 0.
+ */
+#ifndef FAMILIES_H
+#define FAMILIES_H
+
+#include <stddef.h>
+#include <stdint.h>
+
+#ifdef __cplusplus
+extern "C" {
+#endif
+
+/* The number of the latest change request that has landed, in order of landing; 0: the base. */
+#define FAMILIES_EDITION 0
+
+/* On a refusal count and parts are 0. parts is 0 from every call but families_read. */
+typedef struct {
+    uint8_t number;
+    size_t place;
+    size_t count;
+    size_t parts;
+} families_outcome;
+
+/*
+ * What goes from step to step of the sequential run beside the tables: part count, k, used slots, the last accepted
+ * weight (65,535 with no link), and the set of neighbours of each part. A state belongs to the tables that the same
+ * step left. Any other state is safe to pass; its answer means nothing.
+ */
+typedef struct {
+    size_t p, k, used, last;
+    uint64_t rows[64];
+} families_state;
+
+/* A refused start returns a state of zeros, a refused insert the state that it was given. count is 0. */
+typedef struct {
+    families_outcome outcome;
+    families_state state;
+} families_started;
+
+/* Reads a sheet's network into lent space: 8 bytes a name, and a number in each list for every link. count = links, parts = parts. */
+families_outcome families_read(
+    const uint8_t *sheet, size_t sheet_length,
+    uint8_t *names, size_t names_length,
+    uint16_t *lower, size_t lower_length,
+    uint16_t *higher, size_t higher_length,
+    uint16_t *weights, size_t weights_length);
+
+/* Writes the sheet of a network. count = bytes. */
+families_outcome families_write(
+    const uint8_t *names, size_t names_length,
+    const uint16_t *lower, size_t lower_length,
+    const uint16_t *higher, size_t higher_length,
+    const uint16_t *weights, size_t weights_length,
+    uint8_t *out, size_t out_length);
+
+/* A part's name. count = where its eight bytes start in the sheet. */
+families_outcome families_name(const uint8_t *sheet, size_t sheet_length, size_t part);
+
+/* The slots that suffice for p parts and k. count = the bound. */
+families_outcome families_slot_bound(size_t p, size_t k);
+
+/* C(n, r) for n 0 to 64 and r 0 to 6. count = C(n, r), 0 outside the table. */
+families_outcome families_subset_count(size_t n, size_t r);
+
+/* Begins a run link by link: no links, tables all zero. */
+families_started families_start(
+    size_t p, size_t k,
+    uint64_t *sets, size_t sets_length,
+    uint32_t *entries, size_t entries_length,
+    uint64_t *smallest, size_t smallest_length,
+    uint64_t *unions, size_t unions_length);
+
+/* One link more, in the tables that the step before left. A refused insert changes nothing. C cuts a weight above 65,535 silently. */
+families_started families_insert(
+    families_state state,
+    uint64_t *sets, size_t sets_length,
+    uint32_t *entries, size_t entries_length,
+    uint64_t *smallest, size_t smallest_length,
+    uint64_t *unions, size_t unions_length,
+    size_t lower, size_t higher, uint16_t weight);
+
+/* The listing of the links so far: 16 bytes a community, smallest clique then union. count = communities. */
+families_outcome families_listing_now(
+    families_state state,
+    const uint64_t *sets, size_t sets_length,
+    const uint32_t *entries, size_t entries_length,
+    const uint64_t *smallest, size_t smallest_length,
+    const uint64_t *unions, size_t unions_length,
+    uint8_t *out, size_t out_length);
+
+/* The listing of a sheet's links of weight t or more, by either run. count = communities. C cuts a threshold above 65,535 silently. */
+families_outcome families_listing_sequential(
+    const uint8_t *sheet, size_t sheet_length, size_t k, uint16_t t,
+    uint64_t *sets, size_t sets_length,
+    uint32_t *entries, size_t entries_length,
+    uint64_t *smallest, size_t smallest_length,
+    uint64_t *unions, size_t unions_length,
+    uint8_t *out, size_t out_length);
+
+families_outcome families_listing_maximal(
+    const uint8_t *sheet, size_t sheet_length, size_t k, uint16_t t,
+    uint64_t *sets, size_t sets_length,
+    uint32_t *entries, size_t entries_length,
+    uint64_t *smallest, size_t smallest_length,
+    uint64_t *unions, size_t unions_length,
+    uint8_t *out, size_t out_length);
+
+/*
+ * The largest threshold at which a chain joins the k-cliques a and b (the sum of 2^q over a set's parts q), by either run.
+ * count = weight, 0 for never.
+ */
+families_outcome families_meeting_sequential(
+    const uint8_t *sheet, size_t sheet_length, size_t k, uint64_t a, uint64_t b,
+    uint64_t *sets, size_t sets_length,
+    uint32_t *entries, size_t entries_length,
+    uint64_t *smallest, size_t smallest_length,
+    uint64_t *unions, size_t unions_length);
+
+families_outcome families_meeting_maximal(
+    const uint8_t *sheet, size_t sheet_length, size_t k, uint64_t a, uint64_t b,
+    uint64_t *sets, size_t sets_length,
+    uint32_t *entries, size_t entries_length,
+    uint64_t *smallest, size_t smallest_length,
+    uint64_t *unions, size_t unions_length);
+
+/* The merge tree of a sheet: 26 bytes a line. count = lines. */
+families_outcome families_tree(
+    const uint8_t *sheet, size_t sheet_length, size_t k,
+    uint64_t *sets, size_t sets_length,
+    uint32_t *entries, size_t entries_length,
+    uint64_t *smallest, size_t smallest_length,
+    uint64_t *unions, size_t unions_length,
+    uint8_t *out, size_t out_length);
+
+#ifdef __cplusplus
+}
+#endif
+
+#endif
