@@ -1,10 +1,21 @@
-# The two commands: `make run` does the main job on an example that ships, `make test` proves and tests everything.
-.PHONY: run test
+# `make run` does the main job on an example that ships, `make test` proves and tests everything. `make lib` writes the library for C, `make bench` measures it.
+.PHONY: run test lib bench
 
 run:
 	@tests/need-toolchain
-	@tests/quiet rt check bounds
-	@target/bin/bounds
+	@tests/quiet rt check families
+	@echo 'families listing 3 8 examples/bench.sheet'
+	@target/bin/families listing 3 8 examples/bench.sheet
+	@echo 'families tree 3 examples/bench.sheet'
+	@target/bin/families tree 3 examples/bench.sheet
 
 test:
 	@tests/run
+
+lib:
+	@tests/library
+	@echo 'target/lib/libfamilies.a, with the header include/families.h'
+
+bench:
+	@tests/library
+	@tests/rust cargo run --release --package trials --bin bench -- $(MOST)

@@ -4,8 +4,8 @@
 use crate::json::{parse, Value};
 use crate::network::{Community, Link, Network};
 
-const NETWORKS: &str = include_str!("../../tests-data/published.json");
-const TREES: &str = include_str!("../../tests-data/published_trees.json");
+const NETWORKS: &str = include_str!("../../../tests/data/published.json");
+const TREES: &str = include_str!("../../../tests/data/published_trees.json");
 
 /// A network with the listing expected at k and t.
 #[derive(Clone, Debug)]

@@ -1,0 +1,111 @@
+/* Calls every function of families.h on document 01's example P8 and prints what it answers; also a sheet that is refused. */
+#include <inttypes.h>
+#include <stdio.h>
+#include <string.h>
+
+#include "families.h"
+
+enum { SLOTS = 7, OUT = 128 };
+
+static uint64_t sets[SLOTS], smallest[SLOTS], unions[SLOTS];
+static uint32_t entries[SLOTS];
+static uint8_t sheet[OUT], out[OUT];
+
+/* Parts 0, 1, 2 and parts 2, 3, 4 at weight 4, and the link that joins both triangles at weight 2. */
+static const uint8_t names[] = "LOCK    MOTOR   BOARD   COIL    DOOR    ";
+static const uint16_t lower[] = {0, 0, 1, 2, 2, 3, 1};
+static const uint16_t higher[] = {1, 2, 2, 3, 4, 4, 3};
+static const uint16_t weights[] = {4, 4, 4, 4, 4, 4, 2};
+
+#define TABLES(n) sets, (n), entries, (n), smallest, (n), unions, (n)
+
+static void show(const char *call, families_outcome o)
+{
+    printf("%s: number %u place %zu count %zu parts %zu\n", call, (unsigned)o.number, o.place, o.count, o.parts);
+}
+
+static uint64_t number(const uint8_t *bytes, size_t length)
+{
+    uint64_t n = 0;
+    for (size_t i = 0; i < length; i++)
+        n = n << 8 | bytes[i];
+    return n;
+}
+
+static void communities(size_t count)
+{
+    for (size_t i = 0; i < count; i++)
+        printf("  %" PRIu64 "/%" PRIu64 "\n", number(out + 16 * i, 8), number(out + 16 * i + 8, 8));
+}
+
+static size_t reads_and_writes(void)
+{
+    uint8_t read_names[40];
+    uint16_t a[7], b[7], w[7];
+    families_outcome o = families_write(names, 40, lower, 7, higher, 7, weights, 7, sheet, sizeof sheet);
+    show("write", o);
+    families_outcome r = families_read(sheet, o.count, read_names, 40, a, 7, b, 7, w, 7);
+    show("read", r);
+    printf("  the same network: %d\n", !memcmp(read_names, names, 40) && !memcmp(a, lower, sizeof a) &&
+           !memcmp(b, higher, sizeof b) && !memcmp(w, weights, sizeof w));
+    show("read, no room", families_read(sheet, o.count, read_names, 39, a, 7, b, 7, w, 7));
+    show("write, no room", families_write(names, 40, lower, 7, higher, 7, weights, 7, out, o.count - 1));
+    families_outcome n = families_name(sheet, o.count, 3);
+    show("name", n);
+    printf("  %.8s\n", (const char *)sheet + n.count);
+    show("name of part 5", families_name(sheet, o.count, 5));
+    return o.count;
+}
+
+static void steps(size_t slots)
+{
+    families_started s = families_start(5, 3, TABLES(slots));
+    show("start", s.outcome);
+    printf("  p %zu k %zu used %zu last %zu\n", s.state.p, s.state.k, s.state.used, s.state.last);
+    for (size_t j = 0; j < 7; j++) {
+        s = families_insert(s.state, TABLES(slots), lower[j], higher[j], weights[j]);
+        if (s.outcome.number != 0 || j == 6)
+            show("insert", s.outcome);
+    }
+    printf("  used %zu last %zu neighbours of part 2: %" PRIu64 "\n", s.state.used, s.state.last, s.state.rows[2]);
+    families_outcome o = families_listing_now(s.state, TABLES(slots), out, sizeof out);
+    show("listing now", o);
+    communities(o.count);
+}
+
+static void on_sheet(size_t length)
+{
+    families_outcome o = families_listing_sequential(sheet, length, 3, 4, TABLES(SLOTS), out, sizeof out);
+    show("listing, sequential, t 4", o);
+    communities(o.count);
+    o = families_listing_maximal(sheet, length, 3, 2, TABLES(SLOTS), out, sizeof out);
+    show("listing, maximal, t 2", o);
+    communities(o.count);
+    show("meeting, sequential", families_meeting_sequential(sheet, length, 3, 7, 28, TABLES(SLOTS)));
+    show("meeting, maximal", families_meeting_maximal(sheet, length, 3, 28, 7, TABLES(SLOTS)));
+    show("meeting of no clique", families_meeting_maximal(sheet, length, 3, 7, 11, TABLES(SLOTS)));
+    show("meeting, k 7", families_meeting_sequential(sheet, length, 7, 7, 28, TABLES(SLOTS)));
+    o = families_tree(sheet, length, 3, TABLES(SLOTS), out, sizeof out);
+    show("tree", o);
+    for (size_t i = 0; i < o.count; i++)
+        printf("  weight %" PRIu64 " joins %" PRIu64 " into %" PRIu64 " smallest %" PRIu64 " parts %" PRIu64 "\n",
+               number(out + 26 * i, 2), number(out + 26 * i + 2, 4), number(out + 26 * i + 6, 4),
+               number(out + 26 * i + 10, 8), number(out + 26 * i + 18, 8));
+    show("tree, a slot too few", families_tree(sheet, length, 3, TABLES(SLOTS - 1), out, sizeof out));
+    sheet[length - 4] = 2;
+    show("a pair given before", families_listing_sequential(sheet, length, 3, 4, TABLES(SLOTS), out, sizeof out));
+}
+
+int main(void)
+{
+    printf("edition %d\n", FAMILIES_EDITION);
+    size_t length = reads_and_writes();
+    show("slot bound", families_slot_bound(64, 6));
+    show("slot bound, k 1", families_slot_bound(64, 1));
+    show("subset count", families_subset_count(64, 5));
+    show("start, unequal tables", families_start(5, 3, sets, 7, entries, 6, smallest, 7, unions, 7).outcome);
+    steps(SLOTS);
+    steps(SLOTS - 1);
+    on_sheet(length);
+    return 0;
+}
