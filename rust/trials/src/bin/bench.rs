@@ -1,7 +1,10 @@
 //! Times of the library and of the reference on test sheets, with their
-//! ratio: both listings at t 1 and the merge tree.
+//! ratio: both listings at t 1 and the merge tree. The sheets are those of
+//! the recipe of the bench's test sheets, from the starting number 1.
 //!
-//! The first argument gives the most slots or maximal cliques of a row.
+//! The first argument gives the most slots of the sequential run: its time
+//! grows with the square of their number, since slots are found by a linear
+//! search.
 
 use std::env;
 use std::hint::black_box;
@@ -13,7 +16,8 @@ use reference::network::Network;
 use reference::sheets::sheet_bytes;
 use trials::sheets::bench_network;
 
-const DEFAULT_LIMIT: usize = 20_000;
+const DEFAULT_SLOTS: usize = 12_000;
+const MAXIMAL_CLIQUES: usize = 1_000_000;
 const TIMES: usize = 5;
 
 /// The best times of two pieces of work, taken in turns.
@@ -76,31 +80,39 @@ fn tree(network: &Network, k: usize, slots: usize) -> String {
     show(times)
 }
 
-fn row(p: usize, density: u64, k: usize, limit: usize) {
+/// The column of a run that is left out.
+fn none() -> String {
+    format!(" | {:>10} {:>10} {:>8}", "-", "-", "-")
+}
+
+fn row(p: usize, density: u64, k: usize, most: usize) {
     let network = bench_network(1, p, density);
     let slots = fast::classes(&network.links, p, k, 1).slot_count();
     let rows = fast::rows(&network.links, 1);
-    let maximal = fast::maximal_cliques(&rows, p, k, limit).len();
-    // The search for maximal cliques stops at the limit.
-    let counted = match maximal > limit {
-        true => format!(">{limit}"),
-        false => maximal.to_string(),
-    };
-    print!("{p:>3} {density:>4} {k:>2} {slots:>8} {counted:>8}");
-    if slots > limit || maximal > limit {
-        return println!(" | above the limit");
+    let maximal = fast::maximal_cliques(&rows, p, k, MAXIMAL_CLIQUES).len();
+    print!("{p:>3} {density:>4} {k:>2} {slots:>8} {maximal:>8}");
+    match slots <= most {
+        true => print!("{}", listing(&network, k, Run::Sequential, slots)),
+        false => print!("{}", none()),
     }
-    print!("{}", listing(&network, k, Run::Sequential, slots));
-    print!("{}", listing(&network, k, Run::Maximal, maximal));
-    println!("{}", tree(&network, k, slots));
+    match maximal <= MAXIMAL_CLIQUES {
+        true => print!("{}", listing(&network, k, Run::Maximal, maximal)),
+        false => print!("{}", none()),
+    }
+    match slots <= most {
+        true => println!("{}", tree(&network, k, slots)),
+        false => println!("{}", none()),
+    }
 }
 
 fn main() {
-    let limit = env::args()
+    let most = env::args()
         .nth(1)
-        .map_or(DEFAULT_LIMIT, |text| text.parse().expect("a number"));
-    println!("best of {TIMES} in ms: library, reference, ratio");
-    println!("rows with more than {limit} slots or maximal cliques are left out");
+        .map_or(DEFAULT_SLOTS, |text| text.parse().expect("a number"));
+    println!("ms, best of {TIMES}: library, reference, ratio");
+    println!("p parts, d density in percent, threshold 1; as many slots as the run needs");
+    println!("the tables are zero before each call, as every call leaves them");
+    println!("- : more than {most} slots (MOST= takes another number)");
     let column = format!(" | {:>10} {:>10} {:>8}", "library", "reference", "ratio");
     println!(
         "{:>28} | {:<30} | {:<30} | {:<30}",
@@ -118,7 +130,7 @@ fn main() {
     for p in [32, 64] {
         for density in [20, 50, 80, 100] {
             for k in 3..=5 {
-                row(p, density, k, limit);
+                row(p, density, k, most);
             }
         }
     }
