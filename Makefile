@@ -4,10 +4,9 @@
 run:
 	@tests/need-toolchain
 	@tests/quiet rt check families
-	@echo 'families listing 3 8 examples/bench.sheet'
-	@target/bin/families listing 3 8 examples/bench.sheet
-	@echo 'families tree 3 examples/bench.sheet'
-	@target/bin/families tree 3 examples/bench.sheet
+	@tests/shown 'families pack < examples/bench.txt > target/bench.sheet'
+	@tests/shown 'families listing 3 12 target/bench.sheet'
+	@tests/shown 'families tree 3 target/bench.sheet'
 
 test:
 	@tests/run

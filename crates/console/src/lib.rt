@@ -1,0 +1,19 @@
+// What a program for people says and reads: words and numbers on standard output, complaints and refusals on standard error, files into lent space.
+// No contract can say which bytes are written or read, so these functions are proved safe and ending, and stored outputs say the rest.
+mod load;
+mod refusal;
+mod say;
+
+pub use load::Loaded;
+pub use load::last_file;
+pub use load::read;
+pub use refusal::tell;
+pub use refusal::tell_long;
+pub use say::counted;
+pub use say::end;
+pub use say::error;
+pub use say::error_field;
+pub use say::error_of;
+pub use say::field;
+pub use say::number;
+pub use say::text;

@@ -1,0 +1,88 @@
+// A refusal in words: its number, its place, the part or the link that the place belongs to, and what is wrong.
+use crate::say::error;
+use crate::say::error_field;
+
+// The part count in the sheet's head; 0 where the sheet ends before it.
+fn parts(s: &[u8]) -> u8 {
+    if 5 < s.len() { s[5] } else { 0 }
+}
+
+// Parts are counted from 0, as they are in the sheet.
+fn part_at(place: usize) {
+    if 8 <= place {
+        error_field(b"part ", (place - 8) / 8);
+        error(b": ");
+    }
+}
+
+// Links are counted from 1.
+fn link_at(p: u8, place: usize) {
+    let first = 8 + 8 * p as usize;
+    if first <= place {
+        error_field(b"link ", (place - first) / 4 + 1);
+        error(b": ");
+    }
+}
+
+fn owner(s: &[u8], number: u8, place: usize) {
+    match number {
+        5 => part_at(place),
+        6 | 7 | 8 | 9 => link_at(parts(s), place),
+        _ => {}
+    }
+}
+
+// 1 to 9: what is wrong with a sheet.
+fn of_sheet(number: u8) {
+    match number {
+        1 => error(b"no link sheet: it does not begin with PLS"),
+        2 => error(b"the version is not 1"),
+        3 => error(b"the length does not fit the part count and the link count"),
+        4 => error(b"the part count must be 1 to 64"),
+        5 => error(b"a name must be 1 to 8 visible characters, then spaces"),
+        6 => error(b"a link must have two parts of the sheet, the lower one first"),
+        7 => error(b"the weight is 0"),
+        8 => error(b"the weight is above that of the link before"),
+        9 => error(b"this pair of parts was given before"),
+        _ => {}
+    }
+}
+
+// 10 to 16: what is wrong with a call.
+fn of_call(number: u8, slots: usize) {
+    match number {
+        10 => error(b"k must be 2 to 6"),
+        11 => error(b"the tables are of unequal length"),
+        12 => error(b"the state is none that a step has left"),
+        13 => error(b"each of the two sets must have k parts, each two of them linked"),
+        14 => error(b"there is no part of this number"),
+        15 => {
+            error_field(b"this takes more than the ", slots);
+            error(b" slots of this program");
+        }
+        16 => error(b"the answer is longer than the space for it"),
+        _ => {}
+    }
+}
+
+fn head(number: u8, place: usize) {
+    error_field(b"refused ", number as usize);
+    error_field(b" at ", place);
+    error(b": ");
+}
+
+// A refusal of a call on the sheet s, by a program that has so many slots.
+pub fn tell(s: &[u8], number: u8, place: usize, slots: usize) {
+    head(number, place);
+    owner(s, number, place);
+    of_sheet(number);
+    of_call(number, slots);
+    error(b"\n");
+}
+
+// A sheet that is longer than any that is read.
+pub fn tell_long(most: usize) {
+    head(3, most);
+    error_field(b"the sheet is longer than ", most);
+    error(b" bytes\n");
+}

@@ -1,0 +1,146 @@
+// What the arguments ask for. Arguments that ask for nothing are told on standard error with the usage.
+use crate::typed::Number;
+use crate::typed::decimal;
+use crate::usage::wrong;
+use check::same;
+
+// A command with k and the threshold as it takes them; Meet has the place of `--` among the arguments.
+pub enum Order {
+    Help,
+    Pack,
+    Show,
+    Listing(usize, u16),
+    Tree(usize),
+    Meet(usize, usize),
+    Slots(usize),
+    Nothing,
+}
+
+fn nothing(what: &[u8]) -> Order {
+    wrong(what);
+    Order::Nothing
+}
+
+fn number_at(i: usize) -> Number {
+    let mut word = [0u8; 64];
+    let n = os::arg(i, &mut word);
+    decimal(&word[..n])
+}
+
+fn is_dashes(i: usize) -> bool {
+    let mut word = [0u8; 8];
+    let n = os::arg(i, &mut word);
+    same(&word[..n], b"--")
+}
+
+// The first of the arguments from `from` to before `to` that is `--`; `to` where none is.
+fn dashes(from: usize, to: usize) -> usize {
+    let mut i = from;
+    while i < to {
+        if is_dashes(i) {
+            return i;
+        }
+        i += 1;
+    }
+    to
+}
+
+fn pack(count: usize) -> Order {
+    if count != 2 {
+        return nothing(b"pack takes no argument: it reads a text and writes a sheet");
+    }
+    Order::Pack
+}
+
+fn show(count: usize) -> Order {
+    if count != 3 {
+        return nothing(b"show takes a sheet");
+    }
+    Order::Show
+}
+
+fn listing(count: usize) -> Order {
+    if count != 5 {
+        return nothing(b"listing takes K, T and a sheet");
+    }
+    let Number::Is(k) = number_at(2) else {
+        return nothing(b"K must be a number, 2 to 6");
+    };
+    let Number::Is(t) = number_at(3) else {
+        return nothing(b"T must be a number, 0 to 65535");
+    };
+    if 65535 < t {
+        return nothing(b"T must be a number, 0 to 65535");
+    }
+    Order::Listing(k, t as u16)
+}
+
+fn tree(count: usize) -> Order {
+    if count != 4 {
+        return nothing(b"tree takes K and a sheet");
+    }
+    let Number::Is(k) = number_at(2) else {
+        return nothing(b"K must be a number, 2 to 6");
+    };
+    Order::Tree(k)
+}
+
+fn meet(count: usize) -> Order {
+    if count < 5 {
+        return nothing(b"meet takes K, names, --, names and a sheet");
+    }
+    let Number::Is(k) = number_at(2) else {
+        return nothing(b"K must be a number, 2 to 6");
+    };
+    let last = count - 1;
+    let middle = dashes(3, last);
+    if middle == last {
+        return nothing(b"meet takes -- between the names of the two cliques");
+    }
+    Order::Meet(k, middle)
+}
+
+fn slots(count: usize) -> Order {
+    if count != 4 {
+        return nothing(b"slots takes K and a sheet");
+    }
+    let Number::Is(k) = number_at(2) else {
+        return nothing(b"K must be a number, 2 to 6");
+    };
+    Order::Slots(k)
+}
+
+fn command(word: &[u8], count: usize) -> Order {
+    if same(word, b"help") {
+        return Order::Help;
+    }
+    if same(word, b"pack") {
+        return pack(count);
+    }
+    if same(word, b"show") {
+        return show(count);
+    }
+    if same(word, b"listing") {
+        return listing(count);
+    }
+    if same(word, b"tree") {
+        return tree(count);
+    }
+    if same(word, b"meet") {
+        return meet(count);
+    }
+    if same(word, b"slots") {
+        return slots(count);
+    }
+    nothing(b"no such command")
+}
+
+pub fn asked() -> Order {
+    let count = os::arg_count();
+    if count < 2 {
+        return Order::Help;
+    }
+    let mut word = [0u8; 16];
+    let n = os::arg(1, &mut word);
+    command(&word[..n], count)
+}

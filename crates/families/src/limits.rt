@@ -1,0 +1,26 @@
+// How much the program takes: slots, bytes of a sheet and of a text, and the space for its answers.
+
+// Enough for every sheet at k 2 to 4: C(64, 3) is 41,664.
+pub const SLOTS: usize = 65536;
+
+// A community has 16 bytes, and there are no more of them than slots.
+pub const LISTING: usize = 16 * SLOTS;
+
+// A tree of n slots has at most 2 * (n / k) - 1 lines, so for k 2 one less than there are slots; a line has 26 bytes.
+pub const TREE: usize = 26 * (SLOTS - 1);
+
+// Input is read a byte further than it may be long, to see whether it is longer.
+pub const LONGEST_SHEET: usize = 65536;
+
+pub const SHEET_SPACE: usize = LONGEST_SHEET + 1;
+
+pub const LONGEST_TEXT: usize = 262144;
+
+pub const TEXT_SPACE: usize = LONGEST_TEXT + 1;
+
+// The names of 64 parts, the pairs of 64 parts, and the sheet that has them all.
+pub const NAMES: usize = 8 * 64;
+
+pub const LINKS: usize = 2016;
+
+pub const LARGEST_SHEET: usize = 8 + NAMES + 4 * LINKS;

@@ -1,0 +1,53 @@
+// The program `families`: the answers on a link sheet in words, for the people who typed it.
+mod args;
+mod fields;
+mod limits;
+mod listing;
+mod meet;
+mod names;
+mod pack;
+mod refusal;
+mod show;
+mod slots;
+mod tree;
+mod typed;
+mod usage;
+
+use args::Order;
+use console::Loaded;
+use limits::LONGEST_SHEET;
+use limits::SHEET_SPACE;
+
+fn answer(order: Order, s: &[u8]) {
+    match order {
+        Order::Show => show::show(s),
+        Order::Listing(k, t) => listing::listing(s, k, t),
+        Order::Tree(k) => tree::tree(s, k),
+        Order::Meet(k, middle) => meet::meet(s, k, middle),
+        Order::Slots(k) => slots::slots(s, k),
+        _ => {}
+    }
+}
+
+// A command on the sheet that the last argument names.
+fn on_sheet(order: Order) {
+    let mut input = [0u8; SHEET_SPACE];
+    let Loaded::Bytes(n) = console::last_file(&mut input) else {
+        return;
+    };
+    if LONGEST_SHEET < n {
+        console::tell_long(LONGEST_SHEET);
+        return;
+    }
+    answer(order, &input[0..n]);
+}
+
+fn main() {
+    let order = args::asked();
+    match order {
+        Order::Help => usage::help(),
+        Order::Pack => pack::pack(),
+        Order::Nothing => {}
+        _ => on_sheet(order),
+    }
+}

@@ -1,0 +1,25 @@
+// How the program is called.
+use libc::STDERR_FILENO;
+use libc::STDOUT_FILENO;
+
+fn lines(fd: i32) {
+    io::write_all(fd, b"usage:\n");
+    io::write_all(fd, b"  families pack < TEXT > SHEET\n");
+    io::write_all(fd, b"  families show SHEET\n");
+    io::write_all(fd, b"  families listing K T SHEET\n");
+    io::write_all(fd, b"  families tree K SHEET\n");
+    io::write_all(fd, b"  families meet K NAME.. -- NAME.. SHEET\n");
+    io::write_all(fd, b"  families slots K SHEET\n");
+}
+
+pub fn help() {
+    lines(STDOUT_FILENO);
+}
+
+// What was wrong with the arguments, then the usage.
+pub fn wrong(what: &[u8]) {
+    io::write_all(STDERR_FILENO, b"families: ");
+    io::write_all(STDERR_FILENO, what);
+    io::write_all(STDERR_FILENO, b"\n");
+    lines(STDERR_FILENO);
+}

@@ -1,0 +1,11 @@
+pub mod Bytes
+pub mod Examples
+pub mod LinkLaws
+pub mod Names
+pub mod Packed
+pub mod PartLaws
+pub mod Pass1
+pub mod Pass2
+pub mod Rest
+pub mod Weights
+pub mod Whole
