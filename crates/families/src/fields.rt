@@ -5,7 +5,7 @@ fn wide(b: u8) -> usize {
 }
 
 // The byte at i; 0 past the end.
-pub fn byte_at(bytes: &[u8], i: usize) -> usize {
+fn byte_at(bytes: &[u8], i: usize) -> usize {
     if i < bytes.len() { wide(bytes[i]) } else { 0 }
 }
 

@@ -1,20 +1,13 @@
-// Names of parts, as a checked sheet has them.
+// Names of parts, as a sheet has them.
 use check::same;
 use console::text;
 use sets::Set;
 
-// The name of part q without its spaces; none past the sheet's end.
+// The name of part q without its spaces; none where the sheet has no such part.
 pub fn name(s: &[u8], q: usize) -> &[u8] {
-    if 64 <= q {
-        return &s[..0];
-    }
-    let from = 8 + 8 * q;
-    let to = from + 8;
-    if s.len() < to {
-        return &s[..0];
-    }
-    let end = bytes::scan::find(s, from, to, b' ');
-    &s[from..end]
+    let all = sheet::name_bytes(s, q);
+    let end = bytes::scan::find(all, 0, all.len(), b' ');
+    &all[0..end]
 }
 
 fn put(s: &[u8], q: usize) {
@@ -24,12 +17,11 @@ fn put(s: &[u8], q: usize) {
 
 // The names of a set's parts, each after a space.
 pub fn names(s: &[u8], set: Set) {
-    let mut q = 0;
-    while q < 64 {
-        if sets::has(set, q) {
-            put(s, q);
-        }
-        q += 1;
+    let mut rest = set;
+    while !sets::is_empty(rest) {
+        let q = sets::lowest(rest);
+        put(s, q);
+        rest = sets::without(rest, q);
     }
 }
 

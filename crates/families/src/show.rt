@@ -1,6 +1,6 @@
 // `show`: a sheet as the text that `pack` reads.
-use crate::fields::byte_at;
-use crate::fields::two_at;
+use crate::limits::LINKS;
+use crate::limits::NAMES;
 use crate::names::name;
 use crate::refusal::tell;
 use console::counted;
@@ -35,41 +35,57 @@ fn part_lines(s: &[u8], p: usize) -> bool {
     true
 }
 
-// The link at the start of l.
-fn link_line(s: &[u8], l: &[u8]) -> bool {
+fn link_line(s: &[u8], low: usize, high: usize, weight: usize) -> bool {
     text(b"link ");
-    text(name(s, byte_at(l, 0)));
+    text(name(s, low));
     text(b" ");
-    text(name(s, byte_at(l, 1)));
-    field(b" ", two_at(l, 2));
+    text(name(s, high));
+    field(b" ", weight);
     end()
 }
 
-// A line for each four bytes of l.
-fn link_lines(s: &[u8], l: &[u8]) {
-    let mut at = 0;
-    while 4 <= l.len() - at {
-        if !link_line(s, &l[at..]) {
+fn wide(w: u16) -> usize {
+    w as usize
+}
+
+// Link j; false also where a list ends before it.
+fn link_at(s: &[u8], j: usize, lower: &[u16], higher: &[u16], weights: &[u16]) -> bool {
+    if lower.len() <= j {
+        return false;
+    }
+    if higher.len() <= j {
+        return false;
+    }
+    if weights.len() <= j {
+        return false;
+    }
+    link_line(s, wide(lower[j]), wide(higher[j]), wide(weights[j]))
+}
+
+// A line for each of the first m links.
+fn link_lines(s: &[u8], m: usize, lower: &[u16], higher: &[u16], weights: &[u16]) {
+    let mut j = 0;
+    while j < m {
+        if !link_at(s, j, lower, higher, weights) {
             return;
         }
-        at += 4;
+        j += 1;
     }
 }
 
-// A checked sheet: the links stand after its head and p names.
-fn show_checked(s: &[u8], p: usize, m: usize) {
-    if s.len() / 8 <= p {
-        return;
-    }
-    let links = 8 + 8 * p;
+fn print(s: &[u8], p: usize, m: usize, lower: &[u16], higher: &[u16], weights: &[u16]) {
     if head(p, m) && part_lines(s, p) {
-        link_lines(s, &s[links..]);
+        link_lines(s, m, lower, higher, weights);
     }
 }
 
 pub fn show(s: &[u8]) {
-    match sheet::check(s) {
-        Checked::Fine(p, m) => show_checked(s, p, m),
+    let mut names = [0u8; NAMES];
+    let mut lower = [0u16; LINKS];
+    let mut higher = [0u16; LINKS];
+    let mut weights = [0u16; LINKS];
+    match sheet::read(s, &mut names, &mut lower, &mut higher, &mut weights) {
+        Checked::Fine(p, m) => print(s, p, m, &lower, &higher, &weights),
         Checked::Faulty(n, place) => tell(s, n, place),
     }
 }

@@ -1,45 +1,32 @@
 use native.Mathlib.Omega.{arith}
 use borrow.Author.Needs.{needs}
-use Prim.Native.Nat.{_≤_, _-_}
-use lib.ListN.{length}
+use Prim.Native.Nat.{_-_}
 use Rattle.families.proofs.show.link_lines.Statement.{statement}
 use Rattle.families.proofs.show.link_lines.Tie as tie
 
 abbrev Inv-loop : tie.InvT-loop
-Inv-loop s l at₀ at = at ≤ length l
+Inv-loop s m lower higher weights j₀ j = Unit {0}
 
 abbrev μ-loop : tie.MeasureT-loop
-μ-loop s l at₀ at = length l - at
+μ-loop s m lower higher weights j₀ j = m - j
 
 loop-holds : tie.Need-loop-holds Inv-loop μ-loop
-loop-holds c = omega arith
+loop-holds c = tt
 
-sub-loop : tie.Need-sub-loop Inv-loop μ-loop
-sub-loop c = omega arith
-
-sub-link-line : tie.Need-sub-link-line Inv-loop μ-loop
-sub-link-line c = omega arith
-
-part-link-line-start : tie.Need-part-link-line-start Inv-loop μ-loop
-part-link-line-start c = omega arith
-
-part-link-line-end : tie.Need-part-link-line-end Inv-loop μ-loop
-part-link-line-end c = omega arith
-
-link-line-requires : tie.Need-link-line-requires Inv-loop μ-loop
-link-line-requires c κs = search needs
+link-at-requires : tie.Need-link-at-requires Inv-loop μ-loop
+link-at-requires c κs = search needs
 
 returns : tie.Need-returns Inv-loop μ-loop
 returns c = search needs
 
-add-at : tie.Need-add-at Inv-loop μ-loop
-add-at c = omega arith
+add-j : tie.Need-add-j Inv-loop μ-loop
+add-j c = omega arith
 
 loop-less : tie.Need-loop-less Inv-loop μ-loop
 loop-less c = omega arith
 
 loop-again : tie.Need-loop-again Inv-loop μ-loop
-loop-again c = omega arith
+loop-again c = tt
 
 returns-2 : tie.Need-returns-2 Inv-loop μ-loop
 returns-2 c = search needs
@@ -51,13 +38,9 @@ link-lines-spec =
     Inv-loop
     μ-loop
     loop-holds
-    sub-loop
-    sub-link-line
-    part-link-line-start
-    part-link-line-end
-    link-line-requires
+    link-at-requires
     returns
-    add-at
+    add-j
     loop-less
     loop-again
     returns-2)
