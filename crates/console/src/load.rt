@@ -1,9 +1,6 @@
 // Files and standard input into lent space.
-
-pub enum Loaded {
-    Bytes(usize),
-    Failed,
-}
+ghost use Rattle.console.specs.Loading.{Within};
+use crate::Loaded;
 
 // Reads once into buf, from n on: how many bytes came. That it failed is told by the input's name.
 fn read_on(fd: i32, name: &[u8], buf: &mut [u8], n: usize) -> Loaded {
@@ -19,7 +16,9 @@ fn read_on(fd: i32, name: &[u8], buf: &mut [u8], n: usize) -> Loaded {
 }
 
 // All of the input as far as buf has room.
-pub fn read(fd: i32, name: &[u8], buf: &mut [u8]) -> Loaded {
+pub fn read(fd: i32, name: &[u8], buf: &mut [u8]) -> Loaded
+    ensures { λ r. ⌜ Within r (now (buf .exit)) ⌝ }
+{
     let mut n = 0;
     while n < buf.len() {
         let Loaded::Bytes(more) = read_on(fd, name, buf, n) else {
@@ -37,7 +36,9 @@ pub fn read(fd: i32, name: &[u8], buf: &mut [u8]) -> Loaded {
     Loaded::Bytes(n)
 }
 
-fn read_file(path: &[u8], buf: &mut [u8]) -> Loaded {
+fn read_file(path: &[u8], buf: &mut [u8]) -> Loaded
+    ensures { λ r. ⌜ Within r (now (buf .exit)) ⌝ }
+{
     let fd = os::open_read(path);
     if fd < 0 {
         os::fail(path);
@@ -49,7 +50,9 @@ fn read_file(path: &[u8], buf: &mut [u8]) -> Loaded {
 }
 
 // The file that the last argument names.
-pub fn last_file(buf: &mut [u8]) -> Loaded {
+pub fn last_file(buf: &mut [u8]) -> Loaded
+    ensures { λ r. ⌜ Within r (now (buf .exit)) ⌝ }
+{
     let count = os::arg_count();
     if count == 0 {
         return Loaded::Failed;
