@@ -1,28 +1,30 @@
 -- Demand 3: every list of inserts, both runs on a sheet of the same links, the meeting weight by both runs, and any three meeting weights. Each is a
 -- theorem over what the calls must do. Assumes nothing.
-use mathlib.Core.Path.{_≡_, refl, sym, ap, _∙_}
+use mathlib.Core.Path.{_≡_, refl, sym, _∙_, subst}
 use mathlib.Core.Logic.{_↔_}
-use mathlib.Core.List.{List, [], _++_}
+use mathlib.Core.List.{List, []}
 use Prim.Native.Nat.{ℕ, _≤_}
 use native.Mathlib.Omega.{arith}
-use lib.ListN.{length, drop}
+use lib.ListN.{length}
 use Rattle.answers.specs.Verdict.{Verdict, accepted, refused, _then_}
 use Rattle.answers.specs.Answers.{Said, counts, says}
 use Rattle.answers.specs.declared.Answer.{Answer}
 use Rattle.answers.proofs.Laws.{said-count, written-accepted, then-left}
 use Rattle.sets.specs.Lists.{_∈_}
-use Rattle.percolation.specs.Percolate.{Community, adjacent, Chain, listingBytes}
-use Rattle.percolation.specs.Links.{Link, family, listing}
-use Rattle.percolation.specs.Levels.{Meeting, met, never, meeting, weightOf}
+use Rattle.percolation.specs.Percolate.{Community, adjacent, Chain, ChainListing}
+use Rattle.percolation.specs.Links.{Link, cliques, family, listing}
+use Rattle.percolation.specs.Levels.{Meeting, met, never, meeting, weightOf, MeetsAt, TwoLowest}
 use Rattle.percolation.specs.Steps.{acceptedLinks}
 use Rattle.percolation.proofs.Ranges.{good-k}
-use Rattle.percolation.proofs.Accepted.{legal-positive}
+use Rattle.percolation.proofs.Accepted.{legal-positive, legal-none, accepted-legal}
+use Rattle.percolation.proofs.ChainClasses.{all-chains}
 use Rattle.percolation.proofs.Same.{legal-below, listing-same}
-use Rattle.percolation.proofs.Meet.{MeetsAt, TwoLowest, meeting-of, meeting-at, never-of, never-at, two-lowest}
+use Rattle.percolation.proofs.Meet.{meeting-of, meeting-at, never-of, never-at, two-lowest}
 use Rattle.slots.specs.Tables.{Tables}
+use Rattle.listings.specs.Listing.{Gives}
 use Rattle.sheet.specs.Sheet.{parts, linksOf, checkSheet}
 use Rattle.sheet.proofs.Sound.{sheet-legal}
-use Rattle.runs.specs.OnSheet.{listingOf, ListingMeets}
+use Rattle.runs.specs.OnSheet.{listingOf, checkListing, ListingMeets}
 use Rattle.runs.specs.Lent.{checkCall}
 use Rattle.runs.proofs.Agreed.{not-refused}
 use Rattle.runs.proofs.Admitted.{call-sheet, call-k}
@@ -33,46 +35,53 @@ use Rattle.sequential.specs.EveryList.{Inserts, Claim}
 use Rattle.sequential.proofs.Every.{every-list}
 use Rattle.meeting.specs.declared.Met.{Met}
 use Rattle.meeting.specs.Answers.{tells, meetSays, meetSay, meetingOf, checkPair, checkSequential, checkMaximal}
-use Rattle.agreement.specs.Same.{HasLinks}
+use Rattle.agreement.specs.Same.{HasLinks, EverySheet}
 
 -- ---- 1 and 2: the listing of a list of inserts, and of every sheet with exactly the accepted links
 
--- the accepted links, and a sheet that has exactly these: its listing at threshold 0 is the listing now, whatever its part count
-module _ (p k n : ℕ) (X : List Link) (A : List Said) (S : State) (T : Tables) (claim : Claim p k n X A S T) (s : List ℕ)
-    (same : HasLinks s (acceptedLinks p k n [] X)) where
+-- p, k and the tables' n slots are those of an accepted start, X the inserts; that any inserts leave legal links is all that is used
+module _ (p k n : ℕ) (X : List Link) where
   abbrev L : List Link
   L = acceptedLinks p k n [] X
 
-  two : 2 ≤ k
-  two = good-k k (claim .holds .size) .0
-
-  sheet-listing : listingOf s k 0 ≡ listing L p k 0
+  -- a sheet that has exactly these links, whatever its part count: its listing at threshold 0 is theirs
+  sheet-listing : (s : List ℕ) → 2 ≤ k → HasLinks s L → listingOf s k 0 ≡ listing L p k 0
   unfolding listingOf
-  sheet-listing =
+  sheet-listing s two same =
       listing-same (linksOf s) L (parts s) p k two (same .some) (same .each) (legal-below (parts s) (linksOf s) (sheet-legal s (same .fine)))
-      (legal-below p L (claim .holds .links)) 0
+      (legal-below p L (accepted-legal p k n [] X (legal-none p))) 0
 
-  -- by either run (c is what its 15 counts), where neither is refused: the same count, and with the same output before it the same output
-  pub both-runs : (old : List ℕ) (a : Answer) (x : List ℕ) → ListingNowMeets S T old a x
-      → (c : ℕ) (Y : Tables) (b : Answer) (Z : Tables) (y : List ℕ) → ListingMeets c s k 0 Y old b Z y
+  -- by either run (c is what its 15 counts), where it is not refused: the count and the bytes of the listing of the chain classes of the accepted links
+  pub sheet-gives : (s : List ℕ) → HasLinks s L → (c : ℕ) (T : Tables) (old : List ℕ) (r : Answer) (U : Tables) (out : List ℕ)
+      → ListingMeets c s k 0 T old r U out → (j : ℕ) → says r ≡ counts j → ChainListing k (cliques L p k) (listing L p k 0) × Gives (listing L p k 0) old j out
+  unfolding checkListing
+  sheet-gives s same c T old r U out meets j e =
+      let passed = then-left (checkCall s k T) _ (said-count _ _ j (sym e ∙ meets .answer) .0) in
+      let two = good-k k (call-k s k T passed) .0 in
+      (all-chains L p k, subst (λ (C : List Community). Gives C old j out) (sheet-listing s two same) (not-refused c s k 0 T old r U out meets j e))
+
+  -- so does the listing now, where it is not refused
+  pub now-gives : (A : List Said) (S : State) (T : Tables) → Claim p k n X A S T → (old : List ℕ) (r : Answer) (out : List ℕ) → ListingNowMeets S T old r out
+      → (j : ℕ) → says r ≡ counts j → ChainListing k (cliques L p k) (listing L p k 0) × Gives (listing L p k 0) old j out
+  now-gives A S T claim old r out now j e =
+      let l = claim .now old r out now in
+      let g = said-count _ _ j (sym e ∙ l .answer) in
+      (l .chains, record { count = g .1; bytes = l .bytes ∙ written-accepted _ _ old (g .0) })
+
+  -- both methods agree: the same count, and with the same output before it the same output
+  pub both-runs : (A : List Said) (S : State) (T : Tables) → Claim p k n X A S T → (old : List ℕ) (a : Answer) (x : List ℕ) → ListingNowMeets S T old a x
+      → (s : List ℕ) → HasLinks s L → (c : ℕ) (Y : Tables) (b : Answer) (Z : Tables) (y : List ℕ) → ListingMeets c s k 0 Y old b Z y
       → (i j : ℕ) → says a ≡ counts i → says b ≡ counts j → (i ≡ j) × (x ≡ y)
-  both-runs old a x now c Y b Z y meets i j e f =
-      let l = claim .now old a x now in
-      let g = said-count _ _ i (sym e ∙ l .answer) in
-      let h = not-refused c s k 0 Y old b Z y meets j f in (
-        g .1 ∙ ap length (sym sheet-listing) ∙ sym (h .count),
-        l .bytes ∙ written-accepted _ _ old (g .0) ∙ ap (λ (C : List Community). listingBytes C ++ drop (length (listingBytes C)) old) (sym sheet-listing) ∙ sym (h .bytes),
-      )
+  both-runs A S T claim old a x now s same c Y b Z y meets i j e f =
+      let g = now-gives A S T claim old a x now i e .1 in
+      let h = sheet-gives s same c Y old b Z y meets j f .1 in
+      (g .count ∙ sym (h .count), g .bytes ∙ sym (h .bytes))
 
--- the whole, from an accepted start on: the claim of every list, and both runs on every sheet with the accepted links
+-- the whole, from an accepted start on: the claim of every list, and either run on every sheet with the accepted links
 pub every-list-and-sheet : (p k : ℕ) (T : Tables) (r : Stepped) (U : Tables) → StartMeets p k T r U → checkStart p k T ≡ accepted
-    → (X : List Link) (A : List Said) (S : State) (W : Tables) → Inserts (r .state) U X A S W
-    → Claim p k (length (T .entries)) X A S W
-    × ((s : List ℕ) → HasLinks s (acceptedLinks p k (length (T .entries)) [] X) → (old : List ℕ) (a : Answer) (x : List ℕ) → ListingNowMeets S W old a x
-    → (c : ℕ) (Y : Tables) (b : Answer) (Z : Tables) (y : List ℕ) → ListingMeets c s k 0 Y old b Z y
-    → (i j : ℕ) → says a ≡ counts i → says b ≡ counts j → (i ≡ j) × (x ≡ y))
+    → (X : List Link) (A : List Said) (S : State) (W : Tables) → Inserts (r .state) U X A S W → EverySheet p k (length (T .entries)) X A S W
 every-list-and-sheet p k T r U m ok X A S W i =
-    let c = every-list p k T r U m ok X A S W i in (c, λ s h. both-runs p k (length (T .entries)) X A S W c s h)
+    record { claim = every-list p k T r U m ok X A S W i; sheets = sheet-gives p k (length (T .entries)) X }
 
 -- ---- 3: the meeting weight by either run, in the sense of chains
 

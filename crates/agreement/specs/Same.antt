@@ -1,14 +1,32 @@
--- A sheet that has exactly the links of a list, equal weights in any order. Assumes nothing.
+-- A sheet that has exactly the links of a list, equal weights in any order, and demand 3's claim on lists of inserts and such sheets. Assumes nothing.
 use mathlib.Core.Path.{_≡_}
-use mathlib.Core.List.{List}
+use mathlib.Core.List.{List, []}
 use Prim.Native.Nat.{ℕ}
 use Rattle.answers.specs.Verdict.{accepted}
+use Rattle.answers.specs.Answers.{Said, counts, says}
+use Rattle.answers.specs.declared.Answer.{Answer}
 use Rattle.sets.specs.Lists.{_∈_}
-use Rattle.percolation.specs.Links.{Link}
+use Rattle.percolation.specs.Percolate.{ChainListing}
+use Rattle.percolation.specs.Links.{Link, cliques, listing}
+use Rattle.percolation.specs.Steps.{acceptedLinks}
+use Rattle.slots.specs.Tables.{Tables}
 use Rattle.sheet.specs.Sheet.{linksOf, checkSheet}
+use Rattle.listings.specs.Listing.{Gives}
+use Rattle.runs.specs.OnSheet.{ListingMeets}
+use Rattle.sequential.specs.declared.State.{State}
+use Rattle.sequential.specs.EveryList.{Claim}
 
 -- s is accepted, each of its links is one of L, and each of L is one of its links; its part count is its own
 pub record HasLinks (s : List ℕ) (L : List Link) : Type 0 where
   pub fine : checkSheet s ≡ accepted
   pub some : (l : Link) → l ∈ linksOf s → l ∈ L
   pub each : (l : Link) → l ∈ L → l ∈ linksOf s
+
+-- what is claimed of the inserts X, which gave the answers A and left the state S and the tables W, where the tables have n slots
+pub record EverySheet (p k n : ℕ) (X : List Link) (A : List Said) (S : State) (W : Tables) : Type 0 where
+  pub claim : Claim p k n X A S W
+  -- either run on a sheet with exactly the accepted links (c is what its 15 counts) gives the listing of the chain classes of their k-cliques, or is refused
+  pub sheets : (s : List ℕ) → HasLinks s (acceptedLinks p k n [] X) → (c : ℕ) (T : Tables) (old : List ℕ) (r : Answer) (U : Tables) (out : List ℕ)
+      → ListingMeets c s k 0 T old r U out → (j : ℕ) → says r ≡ counts j
+      → ChainListing k (cliques (acceptedLinks p k n [] X) p k) (listing (acceptedLinks p k n [] X) p k 0)
+      × Gives (listing (acceptedLinks p k n [] X) p k 0) old j out

@@ -12,7 +12,7 @@ use Rattle.sets.specs.Lists.{_∈_}
 use Rattle.sets.specs.Sets.{before}
 use Rattle.sets.specs.Value.{width, setBytes, setLength}
 use Rattle.sets.proofs.ListLaws.{getD-member}
-use Rattle.sets.proofs.SetBytes.{set-length}
+use Rattle.sets.proofs.SetBytes.{set-length, ReadsSet, WritesSet}
 use Rattle.percolation.specs.Percolate.{Community, shown, listingBytes}
 use Rattle.listings.specs.Model.{inserted}
 
@@ -64,10 +64,6 @@ abbrev pub BelongsAt : List ℕ → ℕ → ℕ → ℕ → Type 0
 BelongsAt out n s r =
     (C : List Community) (rest : List ℕ) (whole : ℕ) → out ≡ listingBytes C ++ rest → length C ≡ n → ((c : Community) → c ∈ C → c .small < 2 ^ width)
     → inserted (shown s whole) C ≡ take r C ++ (shown s whole ∷ drop r C)
-
--- m is the number of the set whose bytes stand at k
-abbrev pub ReadsSet : List ℕ → ℕ → ℕ → Type 0
-ReadsSet out k m = (a b : List ℕ) (n : ℕ) → out ≡ a ++ setBytes n ++ b → length a ≡ k → n < 2 ^ width → m ≡ n
 
 -- the smallest clique of community i is read at its place
 read-small : (out rest : List ℕ) (C : List Community) (d : Community) (i k m : ℕ) → k ≡ i * stride → out ≡ listingBytes C ++ rest → i < length C
@@ -144,10 +140,6 @@ moved-more e t q k i j h l fits s g =
     ∙ moved-suc e t q k (i - 1) (omega arith) fits (g ∙ ap (moved e q k) (let z : i ≡ suc (i - 1) = omega arith in z))
 
 -- ---- it is written
-
--- `new` is `old` with the bytes of s at k
-abbrev pub WritesSet : List ℕ → List ℕ → ℕ → ℕ → Type 0
-WritesSet old new k s = (a x b : List ℕ) → old ≡ a ++ x ++ b → length a ≡ k → length x ≡ setLength → new ≡ a ++ setBytes s ++ b
 
 -- `new` is `old` with the bytes of a community at k
 abbrev pub WritesCommunity : List ℕ → List ℕ → ℕ → ℕ → ℕ → Type 0

@@ -10,9 +10,10 @@ use lib.Seq.{sets}
 use borrow.Author.Tests.{eq-eqb, ne-eqb}
 use Rattle.sets.specs.Value.{bytes, setBytes}
 use Rattle.sets.proofs.Tests.{lt-or-le}
+use Rattle.sets.proofs.SetBytes.{bytes-length}
 use Rattle.percolation.specs.Tree.{Start, Line, line, treeBytes}
 use Rattle.merge_tree.specs.LevelModel.{lineLength, lineBytes, linesWith, changed}
-use Rattle.merge_tree.proofs.NumberBytes.{bytes-length, writes-sets}
+use Rattle.merge_tree.proofs.NumberBytes.{writes-sets}
 use Rattle.merge_tree.proofs.LinePlaces.{tree-cons, tree-length, line-bytes}
 
 -- ---- lines by what they go into

@@ -10,11 +10,11 @@ use Rattle.sets.specs.Lists.{_∈_}
 use Rattle.sets.specs.Sets.{before}
 use Rattle.sets.specs.Value.{width, bytes, setBytes, setLength}
 use Rattle.sets.proofs.ListLaws.{getD-member}
-use Rattle.sets.proofs.SetBytes.{set-length}
+use Rattle.sets.proofs.SetBytes.{bytes-length, set-length, ReadsSet, WritesSet}
 use Rattle.percolation.specs.Tree.{Line, line, treeBytes}
-use Rattle.listings.proofs.Places.{ReadsSet, WritesSet, moved}
+use Rattle.listings.proofs.Places.{moved}
 use Rattle.merge_tree.specs.LevelModel.{lineLength, lineBytes, placedAmong}
-use Rattle.merge_tree.proofs.NumberBytes.{bytes-length, Writes, writes-both}
+use Rattle.merge_tree.proofs.NumberBytes.{Writes, writes-both}
 
 -- the fields before the sets
 abbrev pub headOf : ℕ → ℕ → ℕ → List ℕ

@@ -1,25 +1,13 @@
--- Numbers in bytes: how many they are, written over lent space one after the other, and read back. Assumes nothing.
-use mathlib.Core.Path.{_≡_, refl, sym, ap, ap₂, _∙_}
+-- Numbers in bytes, written over lent space one after the other, and read back. Assumes nothing.
+use mathlib.Core.Path.{_≡_, sym, ap, ap₂, _∙_}
 use mathlib.Core.List.{List, [], _∷_, _++_, append-assoc}
-use Prim.Native.Nat.{ℕ, zero, suc, _+_, _*_, _/_, _%_, _^_, _≤_}
+use Prim.Native.Nat.{ℕ, _+_, _*_, _/_, _%_, _^_, _≤_}
 use native.Mathlib.Omega.{arith}
-use native.Mathlib.Nat.{div-one, div-div-eq-div-mul}
+use native.Mathlib.Nat.{div-div-eq-div-mul}
 use lib.ListN.{length, getD, take, drop, length-append, length-drop, take-append-drop}
 use lib.Seq.{sets, sets-eq, take-at, drop-at, length-take-le, getD-append-add}
 use Rattle.sets.specs.Value.{bytes}
-
-pub bytes-length : (m n : ℕ) → length (bytes m n) ≡ m
-unfolding bytes
-bytes-length zero n = refl
-bytes-length (suc m) n = ap suc (bytes-length m n)
-
-pub two-bytes : (x : ℕ) → bytes 2 x ≡ x / 256 % 256 ∷ x % 256 ∷ []
-unfolding bytes
-two-bytes x = ap (λ (n : ℕ). x / 256 % 256 ∷ n % 256 ∷ []) (div-one x)
-
-pub four-bytes : (x : ℕ) → bytes 4 x ≡ x / 16777216 % 256 ∷ x / 65536 % 256 ∷ x / 256 % 256 ∷ x % 256 ∷ []
-unfolding bytes
-four-bytes x = ap (λ (n : ℕ). x / 16777216 % 256 ∷ x / 65536 % 256 ∷ x / 256 % 256 ∷ n % 256 ∷ []) (div-one x)
+use Rattle.sets.proofs.SetBytes.{four-bytes}
 
 -- ---- written
 

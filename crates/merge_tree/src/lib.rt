@@ -493,11 +493,11 @@ fn write_tree(
     let mut rows = sets::no_rows();
     let mut used = 0;
     let mut n = 0;
-    let mut j = 0;
-    while j < m {
-        let l = sheet::link(sheet, j);
+    let mut from = 0;
+    while from < m {
+        let l = sheet::link(sheet, from);
         let weight = l.weight;
-        let to = level_end(sheet, m, j);
+        let to = level_end(sheet, m, from);
         let next = runs::take_links(
             sheet,
             &mut rows,
@@ -507,12 +507,12 @@ fn write_tree(
             unions,
             used,
             k,
-            j,
+            from,
             to,
         );
         n = write_level(entries, smallest, unions, used, next, weight, out, n);
         used = next;
-        j = to;
+        from = to;
     }
 }
 

@@ -1,4 +1,5 @@
 pub mod Accepted
+pub mod ChainClasses
 pub mod Chains
 pub mod Communities
 pub mod Examples

@@ -13,18 +13,12 @@ use Rattle.sets.proofs.ListLaws.{any-at, any-of, keep-at, keep-of, eachTwo-once
 use Rattle.sets.proofs.Parts.{another}
 use Rattle.percolation.specs.Percolate.{adjacent, Chain, alone}
 use Rattle.percolation.specs.Links.{Link, heavy, joins, linked, cliques, family}
-use Rattle.percolation.specs.Levels.{Meeting, met, never, levels, joinedAt, meeting, weightOf}
+use Rattle.percolation.specs.Levels.{Meeting, met, never, levels, joinedAt, meeting, weightOf, MeetsAt, Weakest, TwoLowest}
 use Rattle.percolation.specs.Steps.{legal}
 use Rattle.percolation.proofs.Accepted.{good-parts, legal-parts, legal-positive, legal-apart, joins-turn}
 use Rattle.percolation.proofs.Chains.{adjacent-sym, first-in, chain-trans, chain-sym, joined-chain, chain-joined}
 use Rattle.percolation.proofs.Families.{Clique, cliques-of, cliques-at, joins-ends, chain-lower}
 use Rattle.percolation.proofs.Levels.{heavy-of, heavy-at, levels-of, levels-at, largest-met, largest-never, nearest, Nearest, raise-links}
-
--- the definition as it is read
-pub record MeetsAt (L : List Link) (p k a b w : ℕ) : Type 0 where
-  pub positive : 1 ≤ w
-  pub joined : Chain (adjacent k) (family L p k w) a b
-  pub top : (t : ℕ) → 1 ≤ t → Chain (adjacent k) (family L p k t) a b → t ≤ w
 
 module _ (L : List Link) (p k : ℕ) (two : 2 ≤ k) where
   -- a member of the family at t has two linked parts, so some link weighs t or more
@@ -139,10 +133,6 @@ module _ (L : List Link) (p k : ℕ) (two : 2 ≤ k) where
                   (chain-trans (reaches a b (suc n) (omega arith) (omega arith)) (reaches b c (suc n) (omega arith) (omega arith))),
             )
 
--- of three numbers the two lowest are equal
-abbrev pub TwoLowest : ℕ → ℕ → ℕ → Type 0
-TwoLowest x y z = ((x ≡ y) × (x ≤ z)) ⊎ (((y ≡ z) × (y ≤ x)) ⊎ ((x ≡ z) × (x ≤ y)))
-
 pub two-lowest : (L : List Link) (p k : ℕ) → 2 ≤ k → ((l : Link) → l ∈ L → 1 ≤ l .weight) → (a b c : ℕ)
     → TwoLowest (weightOf (meeting L p k a b)) (weightOf (meeting L p k b c)) (weightOf (meeting L p k a c))
 two-lowest L p k two weights a b c =
@@ -168,15 +158,6 @@ two-lowest L p k two weights a b c =
         go (inr a) (inr b) (inr c) = inr (inl (omega arith, omega arith))
 
 -- ---- a clique with itself
-
--- w is the weight of the weakest link inside a
-pub record Weakest (L : List Link) (a w : ℕ) : Type 0 where
-  pub bond : Link
-  pub member : bond ∈ L
-  pub lower : has (bond .low) a ≡ true
-  pub higher : has (bond .high) a ≡ true
-  pub weighs : w ≡ bond .weight
-  pub least : (m : Link) → m ∈ L → has (m .low) a ≡ true → has (m .high) a ≡ true → w ≤ m .weight
 
 -- two links of one pair in a legal list are one
 pub one-link : (p : ℕ) (L : List Link) → legal p L ≡ true → (l m : Link) → l ∈ L → m ∈ L → joins (l .low) (l .high) m ≡ true → l ≡ m

@@ -1,11 +1,11 @@
 -- Percolation of a family F of k-sets: adjacency, chains, classes, communities. The family is any list of sets. Assumes nothing.
 use mathlib.Core.Path.{_≡_}
-use mathlib.Core.Bool.{Bool, true, not, _&&_}
+use mathlib.Core.Bool.{Bool, true, false, not, _&&_}
 use mathlib.Core.List.{List, [], _∷_, _++_, map, flatten}
 use Prim.Native.Nat.{ℕ, suc}
 use lib.Dec.{eqb, leb}
-use Rattle.sets.specs.Lists.{_∈_, any, keep, sorted}
-use Rattle.sets.specs.Sets.{meet, size, unionOf, before}
+use Rattle.sets.specs.Lists.{_∈_, any, keep, eachTwo, sorted}
+use Rattle.sets.specs.Sets.{has, meet, size, unionOf, before}
 use Rattle.sets.specs.Value.{setBytes}
 
 -- two k-cliques that share exactly k - 1 parts
@@ -68,6 +68,20 @@ unionAt k F m = unionOf (keep (joined k F m) F)
 unfoldable pub communities : ℕ → List ℕ → List Community
 unfolding keep sorted before smallest unionAt
 communities k F = map (λ m. shown m (unionAt k F m)) (keep (smallest k F) (sorted before F))
+
+-- C lists the classes of F, as chains make them (`listing-chains`, `chains-only` of proofs/ChainClasses.antt: the listing does, and no other list)
+pub record ChainListing (k : ℕ) (F : List ℕ) (C : List Community) : Type 0 where
+  -- the smallest clique of each is a member of F, and no clique that a chain joins to it comes before it
+  pub member : (c : Community) → c ∈ C → c .small ∈ F
+  pub least : (c : Community) → c ∈ C → (b : ℕ) → Chain (adjacent k) F (c .small) b → before b (c .small) ≡ false
+  -- its union has the parts of the cliques that chains join to it, and no others
+  pub parts : (c : Community) → c ∈ C → (b q : ℕ) → Chain (adjacent k) F (c .small) b → has q b ≡ true → has q (c .whole) ≡ true
+  pub part : (c : Community) → c ∈ C → (q : ℕ) → has q (c .whole) ≡ true → (b : ℕ) × Chain (adjacent k) F (c .small) b × (has q b ≡ true)
+  -- each member of F is in one of them, and in one only
+  pub every : (a : ℕ) → a ∈ F → (c : Community) × c ∈ C × Chain (adjacent k) F (c .small) a
+  pub once : (a : ℕ) (c d : Community) → c ∈ C → d ∈ C → Chain (adjacent k) F (c .small) a → Chain (adjacent k) F (d .small) a → c ≡ d
+  -- they stand by smallest clique
+  pub rising : eachTwo before (map (λ c. c .small) C) ≡ true
 
 -- 16 bytes for each: smallest clique, then union
 unfoldable pub listingBytes : List Community → List ℕ

@@ -1,23 +1,18 @@
 -- Two listings of one sheet at one k and threshold, whatever each counts for 15: where neither is refused they are equal, count and bytes. From what the
 -- calls must do alone. Assumes nothing.
 use mathlib.Core.Path.{_≡_, sym, _∙_}
-use mathlib.Core.List.{List, _++_}
+use mathlib.Core.List.{List}
 use Prim.Native.Nat.{ℕ}
-use lib.ListN.{length, drop}
 use Rattle.answers.specs.Answers.{counts, says}
 use Rattle.answers.specs.declared.Answer.{Answer}
 use Rattle.answers.proofs.Laws.{said-count, written-accepted}
-use Rattle.percolation.specs.Percolate.{listingBytes}
 use Rattle.slots.specs.Tables.{Tables}
+use Rattle.listings.specs.Listing.{Gives}
 use Rattle.runs.specs.OnSheet.{listingOf, ListingMeets}
 
--- a listing that is not refused: its count, and the output's bytes
-pub record Listed (s : List ℕ) (k t n : ℕ) (old out : List ℕ) : Type 0 where
-  pub count : n ≡ length (listingOf s k t)
-  pub bytes : out ≡ listingBytes (listingOf s k t) ++ drop (length (listingBytes (listingOf s k t))) old
-
+-- a listing that is not refused
 pub not-refused : (c : ℕ) (s : List ℕ) (k t : ℕ) (T : Tables) (old : List ℕ) (r : Answer) (U : Tables) (out : List ℕ) → ListingMeets c s k t T old r U out
-    → (n : ℕ) → says r ≡ counts n → Listed s k t n old out
+    → (n : ℕ) → says r ≡ counts n → Gives (listingOf s k t) old n out
 not-refused c s k t T old r U out m n e =
     let f = said-count _ _ n (sym e ∙ m .answer) in record { count = f .1; bytes = m .bytes ∙ written-accepted _ _ old (f .0) }
 

@@ -12,6 +12,7 @@ use Rattle.percolation.specs.Ranges.{goodCount, goodK}
 use Rattle.percolation.specs.Steps.{acceptedLinks, insertAnswers}
 use Rattle.percolation.proofs.Ranges.{good-k}
 use Rattle.percolation.proofs.Accepted.{legal-none}
+use Rattle.percolation.proofs.ChainClasses.{all-chains}
 use Rattle.checks.proofs.Near.{near-none}
 use Rattle.checks.specs.Neighbours.{Neighbours, lastWeight}
 use Rattle.sets.specs.Value.{noRows}
@@ -75,4 +76,8 @@ pub every-list : (p k : ℕ) (T : Tables) (r : Stepped) (U : Tables) → StartMe
 every-list p k T r U m ok X A S W i =
     let n = length (T .entries) in
     let g = inserts-held p k n [] i (start-holds p k T r U m ok) in
-    record { answers = g .0; holds = g .1; now = λ old a out l. record { answer = l .answer p k n _ (g .1); bytes = l .bytes p k n _ (g .1) } }
+    record {
+      answers = g .0;
+      holds = g .1;
+      now = λ old a out l. record { chains = all-chains (acceptedLinks p k n [] X) p k; answer = l .answer p k n _ (g .1); bytes = l .bytes p k n _ (g .1) };
+    }

@@ -7,8 +7,8 @@ use lib.ListN.{length}
 use Rattle.answers.specs.Verdict.{written}
 use Rattle.answers.specs.Answers.{Said, says, sayOf}
 use Rattle.answers.specs.declared.Answer.{Answer}
-use Rattle.percolation.specs.Percolate.{Community, listingBytes}
-use Rattle.percolation.specs.Links.{Link, listing}
+use Rattle.percolation.specs.Percolate.{Community, ChainListing, listingBytes}
+use Rattle.percolation.specs.Links.{Link, cliques, listing}
 use Rattle.percolation.specs.Steps.{acceptedLinks, insertAnswers}
 use Rattle.slots.specs.Tables.{Tables}
 use Rattle.listings.specs.Listing.{checkOut}
@@ -22,8 +22,9 @@ pub data Inserts : State → Tables → List Link → List Said → State → Ta
   more : (S : State) (T : Tables) (l : Link) (r : Stepped) (U : Tables) (X : List Link) (A : List Said) (E : State) (W : Tables)
       → InsertMeets S T l r U → Inserts (r .state) U X A E W → Inserts S T (l ∷ X) (says (r .answer) ∷ A) E W
 
--- out and its answer r are the listing C, or 16
-pub record Lists (C : List Community) (old : List ℕ) (r : Answer) (out : List ℕ) : Type 0 where
+-- out and its answer r are the listing C of the chain classes of F, or 16
+pub record Lists (k : ℕ) (F : List ℕ) (C : List Community) (old : List ℕ) (r : Answer) (out : List ℕ) : Type 0 where
+  pub chains : ChainListing k F C
   pub answer : says r ≡ sayOf (checkOut C (length old)) (length C)
   pub bytes : out ≡ written (checkOut C (length old)) (listingBytes C) old
 
@@ -33,5 +34,6 @@ pub record Claim (p k n : ℕ) (X : List Link) (A : List Said) (S : State) (T : 
   pub answers : A ≡ map (λ v. sayOf v 0) (insertAnswers p k n [] X)
   -- state and tables hold the accepted links
   pub holds : Holds p k n (acceptedLinks p k n [] X) S T
-  -- the listing now is the listing of the accepted links
-  pub now : (old : List ℕ) (r : Answer) (out : List ℕ) → ListingNowMeets S T old r out → Lists (listing (acceptedLinks p k n [] X) p k 0) old r out
+  -- the listing now is the listing of the accepted links, that of the chain classes of their k-cliques
+  pub now : (old : List ℕ) (r : Answer) (out : List ℕ) → ListingNowMeets S T old r out
+      → Lists k (cliques (acceptedLinks p k n [] X) p k) (listing (acceptedLinks p k n [] X) p k 0) old r out

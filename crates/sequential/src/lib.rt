@@ -1,4 +1,4 @@
-// The sequential run: start, insert, the listing now, and the listing of a sheet through these steps.
+// The sequential run: start, insert, the listing now, and the listing of a sheet by what these steps are made of.
 ghost use mathlib.Core.Path.{_≡_};
 ghost use Prim.Native.Nat.{_≤_};
 ghost use lib.ListN.{length};

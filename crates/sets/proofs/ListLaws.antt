@@ -197,6 +197,17 @@ module _ {A : Type 0} (first : A → A → Bool) where
   Rising [] = Unit {0}
   Rising (x ∷ l) = ((y : A) → y ∈ l → first x y ≡ true) × Rising l
 
+  pub rising-each : (l : List A) → Rising l → eachTwo first l ≡ true
+  unfolding eachTwo Rising
+  rising-each [] r = refl
+  rising-each (x ∷ l) r = and-intro (all (first x) l) (eachTwo first l) (all-at (first x) l (λ y m. r .0 y m)) (rising-each l (r .1))
+
+  pub each-rising : (l : List A) → eachTwo first l ≡ true → Rising l
+  unfolding eachTwo Rising
+  each-rising [] t = tt
+  each-rising (x ∷ l) t =
+      ((λ y m. all-of (first x) l (and-left (all (first x) l) (eachTwo first l) t) m), each-rising l (and-right (all (first x) l) (eachTwo first l) t))
+
   pub keep-rising : (f : A → Bool) (l : List A) → Rising l → Rising (keep f l)
   unfolding keep Rising
   keep-rising f [] r = tt

@@ -153,6 +153,11 @@ members-length (suc p) s h = go (digit s) (shifted s 0 p ∙ members-length p (s
 
 -- ---- the sets of parts below p
 
+-- by their numbers
+pub sets-below : (p : ℕ) → setsOf p ≡ below (2 ^ p)
+unfolding setsOf
+sets-below p = refl
+
 pub sets-of : (p s : ℕ) → s ∈ setsOf p → s < 2 ^ p
 unfolding setsOf
 sets-of p s m = below-of (2 ^ p) m

@@ -2,12 +2,11 @@
 // number of the answer by a function of specs/Sets.antt, and a table by the functions of specs/Value.antt.
 ghost use mathlib.Core.Path.{_≡_};
 ghost use mathlib.Core.Bool.{cond};
-ghost use mathlib.Core.List.{List, _++_};
 ghost use lib.Dec.{ltb, leb, eqb};
 ghost use lib.ListN.{length, replicate};
-ghost use Prim.Native.Nat.{ℕ, min, _+_, _<_, _^_};
+ghost use Prim.Native.Nat.{min, _+_};
 ghost use Rattle.sets.specs.Sets.{has, one, meet, union, minus, into, out, size, sub, before, lowest, lows, full};
-ghost use Rattle.sets.specs.Value.{width, num, rows, row, store, noRows, setBytes, setLength};
+ghost use Rattle.sets.specs.Value.{width, num, rows, row, store, noRows, setLength, withSet, setAt};
 
 // Its word is nobody else's to see: a wider set changes this crate alone.
 pub struct Set {
@@ -229,7 +228,7 @@ fn has_room(n: usize, at: usize) -> bool
 
 // The bytes of s from `at` on, high byte first; where they do not fit nothing changes.
 pub fn put_bytes(out: &mut [u8], at: usize, s: Set)
-    ensures { λ _. ⌜ ((a x b : List ℕ) → now (out .entry) ≡ a ++ x ++ b → length a ≡ at → length x ≡ setLength → now (out .exit) ≡ a ++ setBytes (num s) ++ b) ⌝ }
+    ensures { λ _. ⌜ now (out .exit) ≡ withSet (now (out .entry)) at (num s) ⌝ }
 {
     if !has_room(out.len(), at) {
         return;
@@ -245,7 +244,7 @@ pub fn put_bytes(out: &mut [u8], at: usize, s: Set)
 
 // The set whose bytes stand from `at` on; the empty set where there are too few.
 pub fn from_bytes(src: &[u8], at: usize) -> Set
-    ensures { λ r. ⌜ ((a b : List ℕ) (n : ℕ) → now (src .entry) ≡ a ++ setBytes n ++ b → length a ≡ at → n < 2 ^ width → num r ≡ n) ⌝ }
+    ensures { λ r. ⌜ num r ≡ setAt (now (src .entry)) at ⌝ }
 {
     if !has_room(src.len(), at) {
         return empty();

@@ -77,6 +77,38 @@ fn table() {
     end();
 }
 
+fn byte(b: u8) {
+    number(b as u64);
+}
+
+// What stands in ten bytes: the set from each of four places on, the last two of which leave too few, and the bytes at both ends.
+fn read_back(bytes: &[u8; 10]) {
+    set(sets::from_bytes(bytes, 0));
+    set(sets::from_bytes(bytes, 2));
+    set(sets::from_bytes(bytes, 3));
+    set(sets::from_bytes(bytes, 18446744073709551615));
+    byte(bytes[0]);
+    byte(bytes[1]);
+    byte(bytes[2]);
+    byte(bytes[9]);
+    end();
+}
+
+// The bytes of a set, written where they just fit, and then where they do not: that changes nothing.
+fn in_bytes() {
+    let mut bytes: [u8; 10] = [255; 10];
+    io::write_all(STDOUT_FILENO, b"bytes ");
+    count(sets::byte_count());
+    read_back(&bytes);
+    sets::put_bytes(&mut bytes, 2, sets::from_word(72623859790382856));
+    io::write_all(STDOUT_FILENO, b"bytes ");
+    read_back(&bytes);
+    sets::put_bytes(&mut bytes, 3, sets::from_word(7));
+    sets::put_bytes(&mut bytes, 18446744073709551615, sets::from_word(7));
+    io::write_all(STDOUT_FILENO, b"bytes ");
+    read_back(&bytes);
+}
+
 // A table with an empty row for each part.
 fn none() {
     let rows = sets::no_rows();
@@ -107,4 +139,5 @@ fn main() {
     part(18446744073709551615, 64);
     part(1057, 1000);
     table();
+    in_bytes();
 }

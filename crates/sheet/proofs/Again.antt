@@ -1,4 +1,4 @@
--- The round trips over what the calls promise: a sheet read and written again, and a network written and read again. Assumes nothing.
+-- The round trips over what the contracts of `read` and `write` cite: a sheet read and written again, and a network written and read again. Assumes nothing.
 use mathlib.Core.Path.{_≡_, refl, sym, ap, ap₂, _∙_, subst}
 use mathlib.Core.Bool.{true}
 use mathlib.Core.List.{List, _++_}
@@ -19,33 +19,9 @@ use Rattle.sheet.specs.Network.{Network, network, networkOf, partsOf, li
 use Rattle.sheet.specs.Answers.{holds, sheetSays, sheetSay, writtenNetwork}
 use Rattle.sheet.proofs.Sound.{network-few, sheet-length}
 use Rattle.sheet.proofs.Heading.{length-is}
-use Rattle.sheet.proofs.RoundTrip.{Bytes, Held, read-twin, write-twin, sheet-again, network-again}
-
--- what `read` promises of the sheet s, the lent lists before and after, and its answer
-pub record Read (s : List ℕ) (old new : Network) (r : Checked) : Type 0 where
-  pub answer : sheetSays r ≡ sheetSay (checkRead s old) s
-  pub filled : new ≡ writtenNetwork (checkRead s old) (networkOf s) old
-
--- what `write` promises of the network n, the lent bytes before and after, and its answer
-pub record Wrote (n : Network) (out out′ : List ℕ) (w : Answer) : Type 0 where
-  pub answer : says w ≡ sayOf (checkWrite n (length out)) (length (sheetOf n))
-  pub filled : out′ ≡ written (checkWrite n (length out)) (sheetOf n) out
-
--- the first p names and m links of a lent network
-abbrev pub front : ℕ → ℕ → Network → Network
-front p m n = network (take (8 * p) (n .names)) (take m (n .lower)) (take m (n .higher)) (take m (n .weights))
-
--- l stands in the first k of the list `new`, and the rest is as in `old`
-pub record Stands (k : ℕ) (l old new : List ℕ) : Type 0 where
-  pub first : take k new ≡ l
-  pub rest : drop k new ≡ drop k old
-
--- so for the four lists of the network n
-pub record Filled (n old new : Network) : Type 0 where
-  pub names : Stands (length (n .names)) (n .names) (old .names) (new .names)
-  pub lower : Stands (linksIn n) (n .lower) (old .lower) (new .lower)
-  pub higher : Stands (linksIn n) (n .higher) (old .higher) (new .higher)
-  pub weights : Stands (linksIn n) (n .weights) (old .weights) (new .weights)
+use Rattle.sheet.specs.Calls.{ReadMeets, WriteMeets}
+use Rattle.sheet.specs.RoundTrip.{Bytes, Held, front, Stands, Filled}
+use Rattle.sheet.proofs.RoundTrip.{read-twin, write-twin, sheet-again, network-again}
 
 -- ---- what an answer that is no refusal says
 
@@ -100,8 +76,8 @@ read-passes s old ok h = then-both (checkSheet s) _ ok (last-go (roomFor (parts 
 -- ---- the round trips
 
 -- A sheet that `read` accepts, written again from the lists that it filled: the same bytes.
-pub read-write : (s : List ℕ) → Bytes s → (old new : Network) (r : Checked) (p m : ℕ) → Read s old new r → r ≡ Fine p m
-    → (out out′ : List ℕ) (w : Answer) → Wrote (front p m new) out out′ w → length s ≤ length out
+pub read-write : (s : List ℕ) → Bytes s → (old new : Network) (r : Checked) (p m : ℕ) → ReadMeets s old r new → r ≡ Fine p m
+    → (out out′ : List ℕ) (w : Answer) → WriteMeets (front p m new) out w out′ → length s ≤ length out
     → (says w ≡ counts (length s)) × (out′ ≡ s ++ drop (length s) out)
 unfolding checkRead
 read-write s b old new r p m d e out out′ w d′ room =
@@ -109,18 +85,18 @@ read-write s b old new r p m d e out out′ w d′ room =
     let ok = then-left (checkSheet s) _ (a .0) in
     let again = sheet-again s b ok in
     let t = read-twin s (length-is s (sheet-length s ok)) in
-    let full = filled (checkRead s old) (networkOf s) old new (a .0) (again .0) (d .filled) in
+    let full = filled (checkRead s old) (networkOf s) old new (a .0) (again .0) (d .lists) in
     let same = ap₂ (λ (x y : ℕ). front x y new) (a .1 ∙ t .count) (a .2 ∙ t .number) ∙ front-back (networkOf s) old new (again .0) full in
-    let g = subst (λ (n : Network). Wrote n out out′ w) same d′ in
+    let g = subst (λ (n : Network). WriteMeets n out w out′) same d′ in
     let v = write-passes (networkOf s) (length out) (again .0) (omega (arith, ap length (again .1))) in (
       g .answer ∙ say-accepted (checkWrite (networkOf s) (length out)) (length (sheetOf (networkOf s))) v ∙ ap (λ (l : List ℕ). counts (length l)) (again .1),
-      g .filled ∙ written-accepted (checkWrite (networkOf s) (length out)) (sheetOf (networkOf s)) out v
+      g .bytes ∙ written-accepted (checkWrite (networkOf s) (length out)) (sheetOf (networkOf s)) out v
           ∙ ap (λ (l : List ℕ). l ++ drop (length l) out) (again .1),
     )
 
 -- A network that `write` accepts, read again from the bytes that it wrote into lists with room: the same lists.
-pub write-read : (n : Network) → Held n → (out out′ : List ℕ) (w : Answer) (c : ℕ) → Wrote n out out′ w → says w ≡ counts c
-    → (old new : Network) (r : Checked) → Read (take c out′) old new r → roomFor (partsOf n) (linksIn n) old ≡ true
+pub write-read : (n : Network) → Held n → (out out′ : List ℕ) (w : Answer) (c : ℕ) → WriteMeets n out w out′ → says w ≡ counts c
+    → (old new : Network) (r : Checked) → ReadMeets (take c out′) old r new → roomFor (partsOf n) (linksIn n) old ≡ true
     → (sheetSays r ≡ holds (partsOf n) (linksIn n)) × Filled n old new
 unfolding checkWrite sheetSay
 write-read n held out out′ w c d e old new r d′ room =
@@ -129,10 +105,10 @@ write-read n held out out′ w c d e old new r d′ room =
     let ok = then-left (checkNetwork n) _ (a .0) in
     let again = network-again n held ok in
     let t = write-twin n held ok in
-    let bytes = d .filled ∙ written-accepted (checkWrite n (length out)) s out (a .0) in
+    let bytes = d .bytes ∙ written-accepted (checkWrite n (length out)) s out (a .0) in
     let back = ap (take c) bytes ∙ take-at s (drop (length s) out) c (sym (a .1)) in
-    let g = subst (λ (x : List ℕ). Read x old new r) back d′ in
+    let g = subst (λ (x : List ℕ). ReadMeets x old r new) back d′ in
     let v = read-passes s old (again .0) (ap₂ (λ (p m : ℕ). roomFor p m old) (t .count) (t .number) ∙ room) in (
       g .answer ∙ ap (λ (x : Verdict). sheetSay x s) v ∙ ap₂ holds (t .count) (t .number),
-      filled (checkRead s old) n old new v ok (g .filled ∙ ap (λ (x : Network). writtenNetwork (checkRead s old) x old) (again .1)),
+      filled (checkRead s old) n old new v ok (g .lists ∙ ap (λ (x : Network). writtenNetwork (checkRead s old) x old) (again .1)),
     )

@@ -1,17 +1,18 @@
 -- What is read from bytes is held by machine lists, and what is written of such lists is bytes. Assumes nothing.
 use mathlib.Core.Logic.{_⊎_, inl, inr}
 use mathlib.Core.List.{[], List, _∷_, _++_, map, flatten}
-use Prim.Native.Nat.{ℕ, zero, suc, _+_, _*_, _/_, _%_, _^_, _<_, _≤_}
+use Prim.Native.Nat.{ℕ, zero, suc, _+_, _*_, _<_, _≤_}
 use native.Mathlib.Omega.{arith}
-use native.Mathlib.Nat.{mod-lt}
 use lib.ListN.{length, getD, take, drop, List·getD-eq-default}
 use lib.Seq.{getD-drop}
 use Rattle.sets.specs.Value.{bytes}
+use Rattle.sets.proofs.SetBytes.{bytes-small}
 use Rattle.sets.proofs.Tests.{lt-or-le}
 use Rattle.percolation.specs.Links.{Link}
 use Rattle.sheet.specs.Sheet.{parts, links, linkAt, listOf, linkOf, linksOf}
 use Rattle.sheet.specs.Network.{Network, networkOf, partsOf, linksIn, linkIn, linkBytes, headBytes, sheetOf}
-use Rattle.sheet.proofs.RoundTrip.{Bytes, Held, field-length, field-at}
+use Rattle.sheet.specs.RoundTrip.{Bytes, Held}
+use Rattle.sheet.proofs.RoundTrip.{field-length, field-at}
 
 bytes-nil : Bytes []
 bytes-nil = record { small = λ i. omega arith }
@@ -39,9 +40,7 @@ bytes-drop : (k : ℕ) (l : List ℕ) → Bytes l → Bytes (drop k l)
 bytes-drop k l b = record { small = λ i. rw getD-drop (b .small (k + i)) }
 
 bytes-bytes : (n x : ℕ) → Bytes (bytes n x)
-unfolding bytes
-bytes-bytes zero x = bytes-nil
-bytes-bytes (suc n) x = bytes-cons (x / 256 ^ n % 256) (bytes n x) (mod-lt (x / 256 ^ n) (omega arith)) (bytes-bytes n x)
+bytes-bytes n x = record { small = bytes-small n x }
 
 links-bytes : (L : List Link) → Bytes (flatten (map linkBytes L))
 unfolding flatten linkBytes

@@ -18,21 +18,13 @@ use Rattle.percolation.proofs.Ranges.{good-count}
 use Rattle.percolation.proofs.Accepted.{check-parts, good-parts}
 use Rattle.sheet.specs.Sheet.{byte, word, parts, links, linkAt, listOf, linkOf, linksOf, hasMark, hasVersion, hasLength, checkHead, checkSheet}
 use Rattle.sheet.specs.Network.{Network, networkOf, partsOf, linksIn, linkIn, linkBytes, headBytes, sheetOf, hasShape, checkLinkIn, checkNetwork}
+use Rattle.sheet.specs.RoundTrip.{Bytes, Held}
 use Rattle.sheet.proofs.Lists.{listOf-length, listOf-at, listOf-map}
-use Rattle.sheet.proofs.Written.{link-bytes, head-bytes, linksBytes, bytes-none, bytes-more, bytes-length}
+use Rattle.sheet.proofs.Written.{link-bytes, head-bytes, linksBytes, bytes-none, bytes-more, links-length}
 use Rattle.sheet.proofs.Heading.{length-least, length-is, head-mark, head-version, head-length}
 use Rattle.sheet.proofs.Shape.{sheet-size}
 use Rattle.sheet.proofs.Sound.{sheet-head, sheet-length, head-passes, network-shape, network-count, network-links, network-few}
 use Rattle.sheet.proofs.Twins.{Twin, twin-links, twin-network, twin-sheet, twin-read}
-
--- every element is a byte
-pub record Bytes (s : List ℕ) : Type 0 where
-  pub small : (i : ℕ) → getD s i 0 < 256
-
--- a network that lists of bytes and of 16-bit weights hold; the part numbers of an accepted network are below 64
-pub record Held (n : Network) : Type 0 where
-  pub small : (i : ℕ) → getD (n .names) i 0 < 256
-  pub short : (j : ℕ) → getD (n .weights) j 0 < 65536
 
 -- ---- the network in a sheet
 
@@ -196,7 +188,7 @@ link-byte f zero j i h g = absurd (omega arith)
 link-byte f (suc m) j i h g = ap (λ (l : List ℕ). getD l (4 * j + i) 0) (bytes-more f m) ∙ go (link-byte f m j i) (lt-or-le j m)
   where
     size : length (linksBytes f m) ≡ 4 * m
-    size = bytes-length f m
+    size = links-length f m
 
     go : (j < m → i < 4 → getD (linksBytes f m) (4 * j + i) 0 ≡ getD (linkBytes (f j)) i 0) → (j < m) ⊎ (m ≤ j)
         → getD (linksBytes f m ++ linkBytes (f m)) (4 * j + i) 0 ≡ getD (linkBytes (f j)) i 0

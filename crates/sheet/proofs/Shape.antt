@@ -12,7 +12,7 @@ use Rattle.sets.proofs.Tests.{and-left, and-right}
 use Rattle.percolation.specs.Ranges.{goodCount}
 use Rattle.percolation.proofs.Ranges.{good-count}
 use Rattle.sheet.specs.Network.{Network, partsOf, linksIn, linkIn, headBytes, sheetOf, hasShape}
-use Rattle.sheet.proofs.Written.{head-bytes, linksBytes, bytes-length}
+use Rattle.sheet.proofs.Written.{head-bytes, linksBytes, links-length}
 
 -- name bytes in eights, and three lists of one length
 pub shape-parts : (n : Network) → hasShape n ≡ true → (length (n .names) % 8 ≡ 0) × (length (n .higher) ≡ linksIn n) × (length (n .weights) ≡ linksIn n)
@@ -75,4 +75,4 @@ unfolding sheetOf
 sheet-size n =
     let ls = linksBytes (linkIn n) (linksIn n) in
     length-append (headBytes (partsOf n) (linksIn n)) (n .names ++ ls)
-    ∙ (let a = ap length (head-bytes (partsOf n) (linksIn n)) in omega (arith, a, length-append (n .names) ls, bytes-length (linkIn n) (linksIn n)))
+    ∙ (let a = ap length (head-bytes (partsOf n) (linksIn n)) in omega (arith, a, length-append (n .names) ls, links-length (linkIn n) (linksIn n)))

@@ -1,25 +1,17 @@
--- The bytes of a number, of a link and of a head, and links written one after the other. Assumes nothing.
+-- The bytes of a link and of a head, and links written one after the other. Assumes nothing.
 use mathlib.Core.Path.{_≡_, sym, ap, ap₂, _∙_}
 use mathlib.Core.List.{[], List, _∷_, _++_, map, flatten, append-nil, append-assoc}
 use Prim.Native.Nat.{ℕ, zero, suc, _+_, _*_, _/_, _%_, _≤_}
 use native.Mathlib.Omega.{arith}
-use native.Mathlib.Nat.{div-one}
 use native.Mathlib.Numerals.{add-one}
 use lib.ListN.{length, take, drop, length-append}
 use lib.Seq.{take-at, drop-at, drop-drop, sets, sets-eq}
 use Rattle.sets.specs.Value.{bytes}
+use Rattle.sets.proofs.SetBytes.{one-byte, two-bytes}
 use Rattle.percolation.specs.Links.{Link, link}
 use Rattle.sheet.specs.Sheet.{listOf}
 use Rattle.sheet.specs.Network.{linkBytes, headBytes}
 use Rattle.sheet.proofs.Lists.{listOf-none, listOf-more}
-
-pub one-byte : (x : ℕ) → bytes 1 x ≡ x % 256 ∷ []
-unfolding bytes
-one-byte x = ap (λ (n : ℕ). n % 256 ∷ []) (div-one x)
-
-pub two-bytes : (x : ℕ) → bytes 2 x ≡ x / 256 % 256 ∷ x % 256 ∷ []
-unfolding bytes
-two-bytes x = ap (λ (n : ℕ). x / 256 % 256 ∷ n % 256 ∷ []) (div-one x)
 
 pub link-bytes : (low high weight : ℕ) → linkBytes (link low high weight) ≡ low % 256 ∷ high % 256 ∷ weight / 256 % 256 ∷ weight % 256 ∷ []
 unfolding linkBytes
@@ -51,11 +43,11 @@ bytes-none f = ap (λ (l : List Link). flatten (map linkBytes l)) (listOf-none f
 pub bytes-more : (f : ℕ → Link) (n : ℕ) → linksBytes f (suc n) ≡ linksBytes f n ++ linkBytes (f n)
 bytes-more f n = ap (λ (l : List Link). flatten (map linkBytes l)) (listOf-more f n) ∙ flat-more (listOf f n) (f n)
 
-pub bytes-length : (f : ℕ → Link) (n : ℕ) → length (linksBytes f n) ≡ 4 * n
-bytes-length f zero = ap length (bytes-none f)
-bytes-length f (suc n) =
+pub links-length : (f : ℕ → Link) (n : ℕ) → length (linksBytes f n) ≡ 4 * n
+links-length f zero = ap length (bytes-none f)
+links-length f (suc n) =
     ap length (bytes-more f n) ∙ length-append (linksBytes f n) (linkBytes (f n))
-    ∙ (let e : length (linksBytes f n) ≡ 4 * n = bytes-length f n in let g : length (linkBytes (f n)) ≡ 4 = link-length (f n) in omega arith)
+    ∙ (let e : length (linksBytes f n) ≡ 4 * n = links-length f n in let g : length (linkBytes (f n)) ≡ 4 = link-length (f n) in omega arith)
 
 -- ---- into lent space
 
@@ -68,8 +60,8 @@ stored-more f j d t u h e g =
     let four = link-length (f j) in
     g ∙ sets-eq (linkBytes (f j)) t (4 * j) (omega (arith, four))
     ∙ ap₂ (λ (x y : List ℕ). x ++ linkBytes (f j) ++ y)
-    (ap (take (4 * j)) e ∙ take-at (linksBytes f j) (drop (4 * j) d) (4 * j) (bytes-length f j))
+    (ap (take (4 * j)) e ∙ take-at (linksBytes f j) (drop (4 * j) d) (4 * j) (links-length f j))
     (ap (λ (n : ℕ). drop (4 * j + n) t) four
     ∙ sym (drop-drop 4 (4 * j) t) ∙ ap (λ (x : List ℕ). drop 4 (drop (4 * j) x)) e
-    ∙ ap (drop 4) (drop-at (linksBytes f j) (drop (4 * j) d) (4 * j) (bytes-length f j)) ∙ drop-drop 4 (4 * j) d)
+    ∙ ap (drop 4) (drop-at (linksBytes f j) (drop (4 * j) d) (4 * j) (links-length f j)) ∙ drop-drop 4 (4 * j) d)
     ∙ ap₂ (λ (x : List ℕ) (k : ℕ). x ++ drop k d) (sym (bytes-more f j) ∙ ap (linksBytes f) (sym (add-one j))) (let z : 4 * j + 4 ≡ 4 * (j + 1) = omega arith in z)

@@ -4,6 +4,8 @@ use Prim.Native.Nat.{ℕ, _+_}
 use lib.Dec.{ltb}
 use Rattle.answers.specs.Verdict.{Verdict, accepted, refused, _then_, unless, written}
 use Rattle.answers.specs.Answers.{Said, counts, refuses}
+use Rattle.percolation.specs.Links.{Link, link}
+use Rattle.sheet.specs.declared.LinkRow.{LinkRow}
 use Rattle.sheet.specs.declared.Checked.{Checked}
 use Rattle.sheet.specs.declared.Checked.the-variants.{Fine, Faulty}
 use Rattle.sheet.specs.declared.Found.{Found}
@@ -24,6 +26,10 @@ sheetSays (Faulty n a) = faulty n a
 unfoldable pub sheetSay : Verdict → List ℕ → SheetSaid
 sheetSay accepted s = holds (parts s) (links s)
 sheetSay (refused n a) s = faulty n a
+
+-- a link as the code reads it
+abbrev pub linkRow : LinkRow → Link
+linkRow r = link (r .low) (r .high) (r .weight)
 
 -- a lent network after a call: each of its lists as `written` has it
 unfoldable pub writtenNetwork : Verdict → Network → Network → Network

@@ -1,12 +1,12 @@
 -- What tables that show F say of its communities: each slot that is its own end shows one, each community stands at just one such slot, and two slots
 -- end at one exactly where their cliques are joined. Assumes nothing.
-use mathlib.Core.Path.{_≡_, sym, ap, _∙_, subst}
+use mathlib.Core.Path.{_≡_, sym, ap, _∙_, subst, subst⁻¹}
 use mathlib.Core.Logic.{_↔_}
 use mathlib.Core.Bool.{true}
 use mathlib.Core.List.{List}
 use Prim.Native.Nat.{ℕ, _≤_, _<_}
 use native.Mathlib.Omega.{arith}
-use lib.ListN.{getD}
+use lib.ListN.{length, getD}
 use Rattle.sets.specs.Lists.{_∈_}
 use Rattle.sets.specs.Sets.{has, out, size, sub, lowest}
 use Rattle.sets.specs.Value.{row}
@@ -15,9 +15,9 @@ use Rattle.sets.proofs.Members.{lowest-has}
 use Rattle.percolation.specs.Percolate.{Community, joined, communities}
 use Rattle.percolation.proofs.Chains.{joined-chain, chain-joined}
 use Rattle.percolation.proofs.Communities.{communities-of, home-only}
-use Rattle.slots.specs.Tables.{Tables, rootOf}
+use Rattle.slots.specs.Tables.{Tables, Ends, rootOf}
 use Rattle.slots.specs.Shows.{shownAt, Shows}
-use Rattle.slots.proofs.Follow.{root-le, root-twice, root-own}
+use Rattle.slots.proofs.Follow.{root-le, root-twice, root-own, root-reached, reached-root}
 use Rattle.slots.proofs.Lengths.{room-within}
 use Rattle.slots.proofs.Bearing.{InClass, class-own, class-slots, class-chain, class-over}
 use Rattle.slots.proofs.Shown.{Family, shows-steady, shows-slot, stands-chain, shows-sound, shows-complete, part-slot}
@@ -34,6 +34,15 @@ module _ (p k : ℕ) (F : List ℕ) (T : Tables) (h : Shows p k F T) where
 
   pub root-entry : (i : ℕ) → i < T .used → (rootOf (T .entries) i ≡ i) ↔ (getD (T .entries) i 0 ≡ i)
   root-entry i l = root-own (T .entries) i (shows-steady p k F T h) (omega (arith, h .fits, room-within (T .entries)))
+
+  -- following entries from a used slot ends at one whose entry is its own number, and that is its root
+  pub entries-end : (i r : ℕ) → i < T .used → Ends (T .entries) i r ↔ (r ≡ rootOf (T .entries) i)
+  entries-end i r l =
+      let st = shows-steady p k F T h in
+      let w : i < length (T .entries) = omega (arith, h .fits, room-within (T .entries)) in (
+        (λ d. reached-root (T .entries) st w d),
+        (λ e. subst⁻¹ (Ends (T .entries) i) e (root-reached (T .entries) st i w)),
+      )
 
   -- ---- communities
 

@@ -1,5 +1,5 @@
 -- Where following entries ends, and that path halving changes no end. Assumes nothing.
-use mathlib.Core.Path.{_≡_, refl, sym, ap, _∙_, subst}
+use mathlib.Core.Path.{_≡_, refl, sym, ap, _∙_, subst, subst⁻¹}
 use mathlib.Core.Logic.{_⊎_, inl, inr, _↔_}
 use mathlib.Core.List.{List, []}
 use Prim.Native.Nat.{ℕ, zero, suc, _≤_, _<_}
@@ -11,7 +11,7 @@ use borrow.Author.Tests.{lt-ltb, le-ltb, le-leb, lt-leb, eq-eqb, eqb-true, ne-eq
 use Rattle.sets.proofs.Tests.{lt-or-le, same-or-not}
 use Rattle.sets.proofs.ListLaws.{getD-in}
 use Rattle.sets.proofs.Tables.{set-past}
-use Rattle.slots.specs.Tables.{follow, rootOf}
+use Rattle.slots.specs.Tables.{Ends, own, on, follow, rootOf}
 use Rattle.slots.specs.Model.{halvedFrom, halved}
 
 -- ---- ends
@@ -113,6 +113,21 @@ root-own es i st h = (
       omega (arith, st i, getD-in es i 0 i h)),
   (λ e. root-stop es i (omega (arith, getD-in es i 0 i h))),
 )
+
+-- following entries from a slot ends at its root
+pub root-reached : (es : List ℕ) → Steady es → (i : ℕ) → i < length es → Ends es i (rootOf es i)
+root-reached es st =
+    root-ind es (λ i r. i < length es → Ends es i r) (λ i h l. own (omega (arith, st i, getD-in es i 0 i l)))
+    (λ i r h rest l. on (subst⁻¹ (λ (e : ℕ). Ends es e r) (getD-in es i 0 i l) (rest (omega arith))))
+
+-- and nowhere else
+pub reached-root : (es : List ℕ) → Steady es → {i r : ℕ} → i < length es → Ends es i r → r ≡ rootOf es i
+reached-root es st {i} l (own e) = sym (root-own es i st l .1 e)
+reached-root es st {i} {r} l (on d) = go (lt-or-le (getD es i i) i) (reached-root es st (omega (arith, st i)) d)
+  where
+    go : (getD es i i < i) ⊎ (i ≤ getD es i i) → r ≡ rootOf es (getD es i 0) → r ≡ rootOf es i
+    go (inl h) e = e ∙ ap (rootOf es) (getD-in es i 0 i l) ∙ sym (root-go es i h)
+    go (inr h) e = let s : getD es i 0 ≡ i = omega (arith, st i, getD-in es i 0 i l) in e ∙ ap (rootOf es) s
 
 pub set-steady : (es : List ℕ) (r g : ℕ) → g ≤ r → Steady es → Steady (set es r g)
 set-steady es r g l st i = go (same-or-not i r) (lt-or-le i (length es))

@@ -2,6 +2,7 @@
 use mathlib.Core.Bool.{Bool, true, false}
 use mathlib.Core.Path.{_≡_, refl, sym, ap, _∙_}
 use mathlib.Core.Logic.{_⊎_, inl, inr}
+use mathlib.Core.List.{List}
 use Prim.Native.Nat.{ℕ, zero, suc, _+_, _/_, _^_}
 use native.Mathlib.Nat.{pow-suc}
 use native.Mathlib.Omega.{arith}
@@ -12,6 +13,7 @@ use Rattle.sets.specs.Sets.{size, setsOf}
 use Rattle.sets.proofs.Tests.{split}
 use Rattle.sets.proofs.ListLaws.{keep-yes, keep-no}
 use Rattle.sets.proofs.Laws.{size-step, size-empty}
+use Rattle.sets.proofs.Members.{sets-below}
 use Rattle.subsets.specs.Subsets.{subsetCount}
 
 -- how many of the n sets from i on have a size that passes g
@@ -71,8 +73,8 @@ tally-double g i (suc m) =
     )
 
 count-tally : (n r : ℕ) → subsetCount n r ≡ tally (λ z. eqb z r) 0 (2 ^ n)
-unfolding subsetCount tally setsOf below
-count-tally n r = refl
+unfolding subsetCount tally below
+count-tally n r = ap (λ (l : List ℕ). length (keep (λ s. eqb (size s) r) l)) (sets-below n)
 
 -- one part more: the subsets without it, and those with it
 count-split : (n r : ℕ) → subsetCount (suc n) r ≡ subsetCount n r + tally (λ z. eqb (suc z) r) 0 (2 ^ n)

@@ -16,8 +16,7 @@ use Rattle.sets.specs.Lists.{any, all}
 use Rattle.sets.proofs.Tests.{iff, split, and-left, and-right}
 use Rattle.percolation.specs.Ranges.{inRange, goodCount}
 use Rattle.words.specs.declared.Form.{Form}
-use Rattle.words.specs.Model.{formed}
-use Rattle.words.specs.Lines.{same, blank, wordsSay, Said, silent, partSaid, linkSaid, neither}
+use Rattle.words.specs.Lines.{same, blank, wordsSay, Said, silent, partSaid, linkSaid, neither, formed}
 use Rattle.text.specs.declared.Step.{Step}
 use Rattle.text.specs.declared.Step.the-variants.{Count, Fault}
 use Rattle.text.specs.Reading.{isName, padded, nameBytes, numberOf, checkPart, moreParts}

@@ -15,8 +15,7 @@ use Rattle.sets.specs.Lists.{all}
 use Rattle.sets.proofs.ListLaws.{all-more}
 use Rattle.sets.proofs.Tests.{and-intro, and-right}
 use Rattle.percolation.specs.Ranges.{goodCount}
-use Rattle.words.specs.Lines.{line, linesOf, words, wordsSay, Said, silent, partSaid, linkSaid, neither}
-use Rattle.words.specs.Model.{before}
+use Rattle.words.specs.Lines.{line, linesOf, words, wordsSay, Said, silent, partSaid, linkSaid, neither, leading}
 use Rattle.text.specs.declared.Step.{Step}
 use Rattle.text.specs.declared.Step.the-variants.{Count, Fault}
 use Rattle.text.specs.Reading.{isName, nameBytes, checkPart, moreParts, checkParts, partsAfter, partsOf}
@@ -110,7 +109,7 @@ pub parts-held : (text names0 names : List ℕ) (p at : ℕ) (f : PartsSoFar tex
 parts-held text names0 names p at f = with-held (f .N) names0 names (f .stands) (f .named)
 
 module _ (text names0 names names2 : List ℕ) (p at e : ℕ) (r : Step) (f : PartsSoFar text names0 names p at) (l : at < length text)
-    (d : e ≡ at + before (eqb 10) (drop at text)) (m : PartMeets (f .N) at (wordsSay (words (bytesOf text at e))) names r names2) where
+    (d : e ≡ at + leading (eqb 10) (drop at text)) (m : PartMeets (f .N) at (wordsSay (words (bytesOf text at e))) names r names2) where
   abbrev said : Said
   said = wordsSay (words (bytesOf text at e))
 

@@ -15,8 +15,7 @@ use Rattle.checks.specs.Neighbours.{Neighbours}
 use Rattle.checks.proofs.Near.{near-none}
 use Rattle.link_order.specs.Order.{LinkLists, hasRoom, withLinks, sortLinks, putLink}
 use Rattle.link_order.proofs.Kept.{with-none, put-sorted}
-use Rattle.words.specs.Lines.{line, linesOf, words, wordsSay, Said, silent, partSaid, linkSaid, neither}
-use Rattle.words.specs.Model.{before}
+use Rattle.words.specs.Lines.{line, linesOf, words, wordsSay, Said, silent, partSaid, linkSaid, neither, leading}
 use Rattle.text.specs.declared.Step.{Step}
 use Rattle.text.specs.declared.Step.the-variants.{Count, Fault}
 use Rattle.text.specs.Reading.{known, numberOf, isWeight, value, linkGiven, checkLink, moreLinks, checkLinks, linksAfter}
@@ -96,7 +95,7 @@ links-none text N t seen e = record {
 }
 
 module _ (text : List ℕ) (N : List (List ℕ)) (t0 t t2 : LinkLists) (seen seen2 : List ℕ) (m at e : ℕ) (r : Step) (f : LinksSoFar text N t0 t seen m at)
-    (z : Sizes t t0) (l : at < length text) (d : e ≡ at + before (eqb 10) (drop at text))
+    (z : Sizes t t0) (l : at < length text) (d : e ≡ at + leading (eqb 10) (drop at text))
     (k : LinkMeets N (f .L) at (wordsSay (words (bytesOf text at e))) t r t2 seen2) where
   abbrev said : Said
   said = wordsSay (words (bytesOf text at e))

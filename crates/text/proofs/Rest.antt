@@ -7,8 +7,7 @@ use native.Mathlib.Omega.{arith}
 use lib.Dec.{eqb}
 use lib.ListN.{length, take, drop, drop-of-length-le}
 use Rattle.sets.proofs.Tests.{lt-or-le}
-use Rattle.words.specs.Lines.{pieces, Line, line, linesFrom, linesOf}
-use Rattle.words.specs.Model.{before}
+use Rattle.words.specs.Lines.{pieces, Line, line, linesFrom, linesOf, leading}
 use Rattle.words.proofs.Pieces.{line-end-fits, line-last, line-first}
 
 abbrev pub restOf : List ℕ → ℕ → List Line
@@ -33,13 +32,13 @@ pub record Next (text : List ℕ) (at e : ℕ) : Type 0 where
   pub first : restOf text at ≡ line at (bytesOf text at e) ∷ others
   pub after : (others ≡ restOf text (e + 1)) ⊎ ((others ≡ []) × (restOf text (e + 1) ≡ line (e + 1) [] ∷ []))
 
-pub rest-next : (text : List ℕ) (at e : ℕ) → at ≤ length text → e ≡ at + before (eqb 10) (drop at text) → Next text at e
+pub rest-next : (text : List ℕ) (at e : ℕ) → at ≤ length text → e ≡ at + leading (eqb 10) (drop at text) → Next text at e
 rest-next text at e h d = go (lt-or-le e (length text))
   where
     go : (e < length text) ⊎ (length text ≤ e) → Next text at e
     go (inl l) = record { others = restOf text (e + 1); first = line-first text at e h d l; after = inl refl }
     go (inr l) =
-        let f : at + before (eqb 10) (drop at text) ≤ length text = line-end-fits (eqb 10) text at h in
+        let f : at + leading (eqb 10) (drop at text) ≤ length text = line-end-fits (eqb 10) text at h in
         record { others = []; first = line-last text at e h d (omega arith); after = inr (refl, rest-end text (e + 1) (omega arith)) }
 
 -- whatever makes nothing of a line with no byte makes the same of them

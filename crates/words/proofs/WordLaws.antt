@@ -11,9 +11,8 @@ use lib.Seq.{drop-cons, drop-drop, getD-drop}
 use Rattle.sets.specs.Lists.{all, keep}
 use Rattle.sets.proofs.Tests.{split, lt-or-le, and-intro, and-left, and-right}
 use Rattle.sets.proofs.ListLaws.{keep-yes, keep-no, keep-of, all-of, getD-member}
-use Rattle.words.specs.Lines.{pieces, onFirst, blank, someBytes, words}
-use Rattle.words.specs.Model.{before, WordAt}
-use Rattle.words.proofs.Pieces.{before-yes, before-no, before-le, before-at, pieces-last, pieces-more, pieces-on, line-end-fits}
+use Rattle.words.specs.Lines.{pieces, onFirst, blank, someBytes, words, leading, WordAt}
+use Rattle.words.proofs.Pieces.{leading-yes, leading-no, leading-le, leading-at, pieces-last, pieces-more, pieces-on, line-end-fits}
 
 abbrev pub printed : ℕ → Bool
 printed b = not (blank b)
@@ -28,67 +27,70 @@ words-blank : (b : ℕ) (bs : List ℕ) → blank b ≡ true → words (b ∷ bs
 unfolding words pieces someBytes
 words-blank b bs e = rw (pieces, e) (keep-no someBytes [] (pieces blank bs) refl)
 
-words-skip : (l : List ℕ) → words (drop (before printed l) l) ≡ words l
-unfolding before
+words-skip : (l : List ℕ) → words (drop (leading printed l) l) ≡ words l
+unfolding leading
 words-skip [] = refl
 words-skip (b ∷ bs) = go (split (blank b)) (words-skip bs)
   where
-    go : (blank b ≡ true) ⊎ (blank b ≡ false) → words (drop (before printed bs) bs) ≡ words bs → words (drop (before printed (b ∷ bs)) (b ∷ bs)) ≡ words (b ∷ bs)
-    go (inl e) r = rw (before-no printed b bs (ap not e), words-blank b bs e) r
-    go (inr e) r = rw (before-yes printed b bs (ap not e))
+    go : (blank b ≡ true) ⊎ (blank b ≡ false) → words (drop (leading printed bs) bs) ≡ words bs
+        → words (drop (leading printed (b ∷ bs)) (b ∷ bs)) ≡ words (b ∷ bs)
+    go (inl e) r = rw (leading-no printed b bs (ap not e), words-blank b bs e) r
+    go (inr e) r = rw (leading-yes printed b bs (ap not e))
 
-words-first : (b : ℕ) (bs : List ℕ) → blank b ≡ false → words (b ∷ bs) ≡ (b ∷ take (before blank bs) bs) ∷ words (drop (before blank bs) bs)
+words-first : (b : ℕ) (bs : List ℕ) → blank b ≡ false → words (b ∷ bs) ≡ (b ∷ take (leading blank bs) bs) ∷ words (drop (leading blank bs) bs)
 unfolding words someBytes keep
-words-first b bs e = go (lt-or-le (before blank bs) (length bs))
+words-first b bs e = go (lt-or-le (leading blank bs) (length bs))
   where
-    go : (before blank bs < length bs) ⊎ (length bs ≤ before blank bs) → words (b ∷ bs) ≡ (b ∷ take (before blank bs) bs) ∷ words (drop (before blank bs) bs)
+    go : (leading blank bs < length bs) ⊎ (length bs ≤ leading blank bs)
+        → words (b ∷ bs) ≡ (b ∷ take (leading blank bs) bs) ∷ words (drop (leading blank bs) bs)
     go (inl h) =
         ap (keep someBytes) (pieces-on blank b bs e ∙ ap (onFirst b) (pieces-more blank bs h))
-        ∙ keep-yes someBytes (b ∷ take (before blank bs) bs) (pieces blank (drop (suc (before blank bs)) bs)) refl
-        ∙ ap (λ (ws : List (List ℕ)). (b ∷ take (before blank bs) bs) ∷ ws)
-        (sym (ap words (drop-cons bs (before blank bs) 0 h) ∙ words-blank (getD bs (before blank bs) 0) (drop (suc (before blank bs)) bs) (before-at blank bs h)))
+        ∙ keep-yes someBytes (b ∷ take (leading blank bs) bs) (pieces blank (drop (suc (leading blank bs)) bs)) refl
+        ∙ ap (λ (ws : List (List ℕ)). (b ∷ take (leading blank bs) bs) ∷ ws)
+        (sym (ap words (drop-cons bs (leading blank bs) 0 h)
+        ∙ words-blank (getD bs (leading blank bs) 0) (drop (suc (leading blank bs)) bs) (leading-at blank bs h)))
     go (inr h) =
-        ap (keep someBytes) (pieces-on blank b bs e ∙ ap (onFirst b) (pieces-last blank bs (omega (arith, before-le blank bs))))
-        ∙ keep-yes someBytes (b ∷ take (before blank bs) bs) [] refl
-        ∙ ap (λ (ws : List (List ℕ)). (b ∷ take (before blank bs) bs) ∷ ws) (sym (ap words (drop-of-length-le bs h) ∙ words-nil))
+        ap (keep someBytes) (pieces-on blank b bs e ∙ ap (onFirst b) (pieces-last blank bs (omega (arith, leading-le blank bs))))
+        ∙ keep-yes someBytes (b ∷ take (leading blank bs) bs) [] refl
+        ∙ ap (λ (ws : List (List ℕ)). (b ∷ take (leading blank bs) bs) ∷ ws) (sym (ap words (drop-of-length-le bs h) ∙ words-nil))
 
 -- ---- a line from a place
 
 -- the word that starts at a place and ends at e, and those behind it
-words-from : (l : List ℕ) (i e : ℕ) → i < length l → blank (getD l i 0) ≡ false → e ≡ suc i + before blank (drop (suc i) l)
+words-from : (l : List ℕ) (i e : ℕ) → i < length l → blank (getD l i 0) ≡ false → e ≡ suc i + leading blank (drop (suc i) l)
     → words (drop i l) ≡ take (e - i) (drop i l) ∷ words (drop e l)
 words-from l i e h s d =
     ap words (drop-cons l i 0 h) ∙ words-first (getD l i 0) (drop (suc i) l) s ∙ ap₂ _∷_ (sym here) (ap words behind)
   where
-    here : take (e - i) (drop i l) ≡ getD l i 0 ∷ take (before blank (drop (suc i) l)) (drop (suc i) l)
+    here : take (e - i) (drop i l) ≡ getD l i 0 ∷ take (leading blank (drop (suc i) l)) (drop (suc i) l)
     here =
-        ap (λ (n : ℕ). take n (drop i l)) (let q : e - i ≡ suc (before blank (drop (suc i) l)) = omega arith in q)
-        ∙ ap (take (suc (before blank (drop (suc i) l)))) (drop-cons l i 0 h)
+        ap (λ (n : ℕ). take n (drop i l)) (let q : e - i ≡ suc (leading blank (drop (suc i) l)) = omega arith in q)
+        ∙ ap (take (suc (leading blank (drop (suc i) l)))) (drop-cons l i 0 h)
 
-    behind : drop (before blank (drop (suc i) l)) (drop (suc i) l) ≡ drop e l
-    behind = drop-drop (before blank (drop (suc i) l)) (suc i) l ∙ ap (λ (j : ℕ). drop j l) (sym d)
+    behind : drop (leading blank (drop (suc i) l)) (drop (suc i) l) ≡ drop e l
+    behind = drop-drop (leading blank (drop (suc i) l)) (suc i) l ∙ ap (λ (j : ℕ). drop j l) (sym d)
 
-module _ (l : List ℕ) (i r : ℕ) (h : i ≤ length l) (d : r ≡ i + before printed (drop i l)) where
+module _ (l : List ℕ) (i r : ℕ) (h : i ≤ length l) (d : r ≡ i + leading printed (drop i l)) where
   -- blanks in front do not matter
   skip-left : words (drop r l) ≡ words (drop i l)
-  skip-left = ap (λ (j : ℕ). words (drop j l)) d ∙ ap words (sym (drop-drop (before printed (drop i l)) i l)) ∙ words-skip (drop i l)
+  skip-left = ap (λ (j : ℕ). words (drop j l)) d ∙ ap words (sym (drop-drop (leading printed (drop i l)) i l)) ∙ words-skip (drop i l)
 
   skip-starts : r < length l → blank (getD l r 0) ≡ false
   skip-starts k =
       ap (λ (j : ℕ). blank (getD l j 0)) d
-      ∙ ap blank (sym (getD-drop i l (before printed (drop i l)) 0))
-      ∙ not-true (blank (getD (drop i l) (before printed (drop i l)) 0)) (before-at printed (drop i l) (omega (arith, length-drop i l)))
+      ∙ ap blank (sym (getD-drop i l (leading printed (drop i l)) 0))
+      ∙ not-true (blank (getD (drop i l) (leading printed (drop i l)) 0)) (leading-at printed (drop i l) (omega (arith, length-drop i l)))
 
   skip-fits : r ≤ length l
   skip-fits = omega (arith, line-end-fits printed l i h)
 
 -- ---- where word n starts
 
-pub word-zero : (l : List ℕ) (r : ℕ) → r ≡ 0 + before printed (drop 0 l) → WordAt l 0 r
+pub word-zero : (l : List ℕ) (r : ℕ) → r ≡ 0 + leading printed (drop 0 l) → WordAt l 0 r
 word-zero l r d = record { fits = skip-fits l 0 r (omega arith) d; starts = skip-starts l 0 r (omega arith) d; left = skip-left l 0 r (omega arith) d }
 
 module _ (l : List ℕ) (n i : ℕ) (w : WordAt l n i) where
-  pub word-next : (e r : ℕ) → i < length l → e ≤ length l → e ≡ suc i + before blank (drop (suc i) l) → r ≡ e + before printed (drop e l) → WordAt l (n + 1) r
+  pub word-next : (e r : ℕ) → i < length l → e ≤ length l → e ≡ suc i + leading blank (drop (suc i) l) → r ≡ e + leading printed (drop e l) → WordAt l (n + 1) r
   word-next e r h k d s = record { fits = skip-fits l e r k s; starts = skip-starts l e r k s; left = rest }
     where
       rest : words (drop r l) ≡ drop (n + 1) (words l)
@@ -96,7 +98,7 @@ module _ (l : List ℕ) (n i : ℕ) (w : WordAt l n i) where
 
   pub word-there : i < length l → n < length (words l)
   word-there h =
-      omega (arith, ap length (sym (words-from l i (suc i + before blank (drop (suc i) l)) h (w .starts h) refl) ∙ w .left), length-drop n (words l))
+      omega (arith, ap length (sym (words-from l i (suc i + leading blank (drop (suc i) l)) h (w .starts h) refl) ∙ w .left), length-drop n (words l))
 
   pub word-past : length l ≤ i → length (words l) ≤ n
   word-past h = omega (arith, ap length (sym (w .left) ∙ ap words (drop-of-length-le l h) ∙ words-nil), length-drop n (words l))
@@ -108,10 +110,11 @@ module _ (l : List ℕ) (n i : ℕ) (w : WordAt l n i) where
       rest : words (drop i l) ≡ drop m (words l)
       rest = ap words (drop-of-length-le l h) ∙ words-nil ∙ sym (drop-of-length-le (words l) (let q : length (words l) ≤ m = omega (arith, word-past h) in q))
 
-  pub word-none : length l ≤ i → [] ≡ getD (words l) n []
-  word-none h = sym (List·getD-eq-default (words l) [] (word-past h))
+  pub word-none : length l ≤ i → take (length l - i) (drop i l) ≡ getD (words l) n []
+  word-none h =
+      ap (λ (m : ℕ). take m (drop i l)) (let q : length l - i ≡ 0 = omega arith in q) ∙ sym (List·getD-eq-default (words l) [] (word-past h))
 
-  pub word-is : (e : ℕ) → i < length l → e ≡ suc i + before blank (drop (suc i) l) → take (e - i) (drop i l) ≡ getD (words l) n []
+  pub word-is : (e : ℕ) → i < length l → e ≡ suc i + leading blank (drop (suc i) l) → take (e - i) (drop i l) ≡ getD (words l) n []
   word-is e h d =
       ap (λ (ws : List (List ℕ)). getD ws 0 []) (sym (words-from l i e h (w .starts h) d) ∙ w .left)
       ∙ getD-drop n (words l) 0 []

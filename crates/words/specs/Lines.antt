@@ -1,10 +1,13 @@
 -- The lines of a text, a list of bytes; the words of a line, and what they say. Assumes nothing.
+use mathlib.Core.Path.{_≡_}
 use mathlib.Core.Bool.{Bool, true, false, cond, _&&_, _||_}
 use mathlib.Core.List.{List, [], _∷_}
-use Prim.Native.Nat.{ℕ, suc, _+_}
+use Prim.Native.Nat.{ℕ, suc, _+_, _<_, _≤_}
 use lib.Dec.{eqb}
-use lib.ListN.{length, take}
+use lib.ListN.{length, getD, take, drop}
 use Rattle.sets.specs.Lists.{keep}
+use Rattle.words.specs.declared.Form.{Form}
+use Rattle.words.specs.declared.Form.the-variants.{Silent, Part, Link, Neither}
 
 -- two lists of bytes are the same
 unfoldable pub same : List ℕ → List ℕ → Bool
@@ -22,6 +25,11 @@ onFirst b (w ∷ ws) = (b ∷ w) ∷ ws
 unfoldable pub pieces : (ℕ → Bool) → List ℕ → List (List ℕ)
 pieces parts [] = [] ∷ []
 pieces parts (b ∷ bs) = elim (parts b) [ true ↦ [] ∷ pieces parts bs | false ↦ onFirst b (pieces parts bs) ]
+
+-- how many stand before the first that passes the test
+unfoldable pub leading : (ℕ → Bool) → List ℕ → ℕ
+leading f [] = 0
+leading f (b ∷ bs) = elim (f b) [ true ↦ 0 | false ↦ suc (leading f bs) ]
 
 -- ---- lines
 
@@ -67,6 +75,12 @@ unfoldable pub words : List ℕ → List (List ℕ)
 unfolding keep pieces blank someBytes
 words l = keep someBytes (pieces blank l)
 
+-- word n of the line l, counted from 0, starts at this place; the line ends there where it has no such word
+pub record WordAt (l : List ℕ) (n place : ℕ) : Type 0 where
+  pub fits : place ≤ length l
+  pub starts : place < length l → blank (getD l place 0) ≡ false
+  pub left : words (drop place l) ≡ drop n (words l)
+
 -- ---- what a line says
 
 pub data Said : Type 0 where
@@ -109,3 +123,10 @@ wordsSay (w ∷ ws) =
 unfoldable pub lineSays : Line → Said
 unfolding wordsSay words
 lineSays l = wordsSay (words (l .bytes))
+
+-- what a form, as the code tells it, says of the words of a line
+abbrev pub formed : Form → List (List ℕ) → Said
+formed Silent ws = silent
+formed Part ws = partSaid (getD ws 1 [])
+formed Link ws = linkSaid (getD ws 1 []) (getD ws 2 []) (getD ws 3 [])
+formed Neither ws = neither

@@ -5,8 +5,7 @@ ghost use mathlib.Core.List.{[]};
 ghost use Prim.Native.Nat.{ℕ, suc, _+_, _<_, _≤_};
 ghost use lib.Dec.{eqb};
 ghost use lib.ListN.{length, getD, drop};
-ghost use Rattle.words.specs.Lines.{lineOf, blank, words, comment, wordsSay};
-ghost use Rattle.words.specs.Model.{before, formed, WordAt};
+ghost use Rattle.words.specs.Lines.{lineOf, blank, words, comment, wordsSay, leading, formed, WordAt};
 
 // The forms of a line. A blank line or a comment is silent.
 pub enum Form {
@@ -38,7 +37,7 @@ pub fn line_of(text: &[u8], place: usize) -> usize
 
 // Where the line that starts at `at` ends: at a byte 10, or at the end of the text.
 pub fn line_end(text: &[u8], at: usize) -> usize
-    ensures { λ r. ⌜ r ≡ at + before (eqb 10) (drop at (now (text .entry))) ⌝ }
+    ensures { λ r. ⌜ r ≡ at + leading (eqb 10) (drop at (now (text .entry))) ⌝ }
 {
     let mut i = at;
     while i < text.len() {
@@ -62,7 +61,7 @@ fn is_blank(b: u8) -> bool
 // The first byte from `at` on that is not blank; the line's length where there is none.
 fn skip_blanks(line: &[u8], at: usize) -> usize
     requires { ⌜ at ≤ length (now line) ⌝ }
-    ensures { λ r. ⌜ (r ≡ at + before (λ b. not (blank b)) (drop at (now (line .entry)))) × (r ≤ length (now (line .entry))) ⌝ }
+    ensures { λ r. ⌜ (r ≡ at + leading (λ b. not (blank b)) (drop at (now (line .entry)))) × (r ≤ length (now (line .entry))) ⌝ }
 {
     let mut i = at;
     while i < line.len() {
@@ -77,7 +76,7 @@ fn skip_blanks(line: &[u8], at: usize) -> usize
 // The end of the word that starts at `at`.
 fn word_end(line: &[u8], at: usize) -> usize
     requires { ⌜ at < length (now line) ⌝ }
-    ensures { λ r. ⌜ (r ≡ suc at + before blank (drop (suc at) (now (line .entry)))) × (r ≤ length (now (line .entry))) ⌝ }
+    ensures { λ r. ⌜ (r ≡ suc at + leading blank (drop (suc at) (now (line .entry)))) × (r ≤ length (now (line .entry))) ⌝ }
 {
     let mut i = at + 1;
     while i < line.len() {
@@ -126,13 +125,14 @@ fn word_start(line: &[u8], n: usize) -> usize
     at
 }
 
-// Word n of a line, counted from 0; no byte where it has no such word.
+// Word n of a line, counted from 0, as the part of the caller's line that holds it; where it has no such word, no byte, at the line's end.
 pub fn word(line: &[u8], n: usize) -> &[u8]
     ensures { λ r. ⌜ now r ≡ getD (words (now (line .entry))) n [] ⌝ }
+    ensures { λ r. ⌜ ((a : ℕ) × WordAt (now (line .entry)) n a × (r .ptr ≡ (line .entry .ptr .0, a + line .entry .ptr .1))) ⌝ }
 {
     let start = word_start(line, n);
     if line.len() <= start {
-        return &line[..0];
+        return &line[start..];
     }
     let end = word_end(line, start);
     &line[start..end]

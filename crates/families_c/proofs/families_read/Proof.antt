@@ -23,7 +23,7 @@ same-length-4 : tie.Need-same-length-4
 same-length-4 c = search needs
 
 returns : tie.Need-returns
-returns c = (c .of-sheet .ensures ∙ ap sheetShown (c .before .before .before .before .before .before .before .before .before .read .ensures .0), c .before .before .before .before .before .before .before .before .before .read .ensures .1)
+returns c = (c .of-sheet .ensures ∙ ap sheetShown (c .before .before .before .before .before .before .before .before .before .read .ensures .answer), c .before .before .before .before .before .before .before .before .before .read .ensures .lists)
 
 pub families-read-spec : {M : Type 1} → statement M
 families-read-spec =

@@ -14,7 +14,7 @@ same-length : tie.Need-same-length
 same-length c = search needs
 
 returns : tie.Need-returns
-returns c = (c .of-answer .ensures ∙ ap shown (c .before .before .before .write .ensures .0), c .before .before .before .write .ensures .1)
+returns c = (c .of-answer .ensures ∙ ap shown (c .before .before .before .write .ensures .answer), c .before .before .before .write .ensures .bytes)
 
 pub families-write-spec : {M : Type 1} → statement M
 families-write-spec = tie.close (tie.spec write-requires of-answer-requires same-length returns)

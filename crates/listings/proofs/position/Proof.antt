@@ -3,6 +3,7 @@ use mathlib.Core.Path.{_≡_, sym, ap, subst, _∙_}
 use Prim.Native.Nat.{ℕ, _≤_, _-_, _*_}
 use native.Mathlib.Omega.{arith}
 use borrow.Author.Needs.{needs}
+use Rattle.sets.proofs.SetBytes.{at-reads}
 use Rattle.sets.specs.Value.{num}
 use Rattle.listings.proofs.Places.{stride, Behind, BelongsAt, behind-none, behind-more, belongs-here, belongs-last}
 use Rattle.listings.proofs.position.Statement.{statement}
@@ -34,7 +35,7 @@ returns c =
     let l = c .before .before .before .before .loop in
     let a = c .before .before .before .before .before .before .before .args in (
       l .inv .1,
-      belongs-here (a .out .now) (a .n) (num (a .small)) (l .i) _ _ (omega arith) (ap (λ (k : ℕ). l .i * k) (l .inv .0)) (l .inv .2) (c .before .before .from-bytes .ensures) (sym (c .before .less .ensures) ∙ c .if1 .taken),
+      belongs-here (a .out .now) (a .n) (num (a .small)) (l .i) _ _ (omega arith) (ap (λ (k : ℕ). l .i * k) (l .inv .0)) (l .inv .2) (at-reads (a .out .now) _ _ (c .before .before .from-bytes .ensures)) (sym (c .before .less .ensures) ∙ c .if1 .taken),
     )
 
 add-i : tie.Need-add-i Inv-loop μ-loop
@@ -49,7 +50,7 @@ loop-again c =
     let a = c .before .before .before .before .before .before .before .args in (
       l .inv .0,
       omega arith,
-      behind-more (a .out .now) (a .n) (num (a .small)) (l .i) _ _ (omega arith) (ap (λ (k : ℕ). l .i * k) (l .inv .0)) (l .inv .2) (c .before .before .from-bytes .ensures) (sym (c .before .less .ensures) ∙ c .if1 .left),
+      behind-more (a .out .now) (a .n) (num (a .small)) (l .i) _ _ (omega arith) (ap (λ (k : ℕ). l .i * k) (l .inv .0)) (l .inv .2) (at-reads (a .out .now) _ _ (c .before .before .from-bytes .ensures)) (sym (c .before .less .ensures) ∙ c .if1 .left),
     )
 
 returns-2 : tie.Need-returns-2 Inv-loop μ-loop

@@ -3,6 +3,7 @@ use Prim.Native.Nat.{ℕ, _*_, _+_}
 use native.Mathlib.Omega.{arith}
 use borrow.Author.Needs.{needs}
 use Rattle.sets.specs.Value.{num}
+use Rattle.sets.proofs.SetBytes.{put-writes}
 use Rattle.listings.proofs.Places.{stride, both-written}
 use Rattle.listings.proofs.put_community.Statement.{statement}
 use Rattle.listings.proofs.put_community.Tie as tie
@@ -33,7 +34,9 @@ returns : tie.Need-returns
 returns c =
     let a = c .before .before .before .before .before .before .before .before .before .before .before .args in
     let e : a .at * c .before .before .before .before .before .before .before .before .before .community-length .result ≡ a .at * stride = ap (λ (k : ℕ). a .at * k) (c .before .before .before .before .before .before .before .before .before .community-length .ensures) in
-    both-written (a .out .now) _ _ (a .at * stride) _ _ (num (a .small)) (num (a .whole)) e (ap₂ _+_ e (c .before .before .before .byte-count .ensures)) (c .before .before .before .before .before .before .before .put-bytes .ensures) (c .before .before .put-bytes2 .ensures)
+    both-written (a .out .now) _ _ (a .at * stride) _ _ (num (a .small)) (num (a .whole)) e (ap₂ _+_ e (c .before .before .before .byte-count .ensures))
+    (put-writes _ _ _ (num (a .small)) (c .before .before .before .before .before .before .before .put-bytes .ensures))
+    (put-writes _ _ _ (num (a .whole)) (c .before .before .put-bytes2 .ensures))
 
 pub put-community-spec : {M : Type 1} → statement M
 put-community-spec =

@@ -1,6 +1,7 @@
 -- The invariant: the line belongs behind those below i, or among the others. Assumes nothing.
 use Rattle.merge_tree.proofs.LinePlaces.{Behind, BelongsAt, behind-none, behind-more, belongs-here, belongs-last}
 use Rattle.merge_tree.specs.LevelModel.{lineLength}
+use Rattle.sets.proofs.SetBytes.{at-reads}
 use Rattle.sets.specs.Value.{num}
 use Prim.Native.Nat.{ℕ, _≤_, _-_, _+_, _*_}
 use mathlib.Core.Path.{_≡_, sym, ap, subst, _∙_}
@@ -39,7 +40,7 @@ returns c =
     let a = c .before .before .before .before .before .before .before .args in (
       l .inv .1,
       l .inv .2,
-      belongs-here (a .out .now) (a .from) (a .to) (num (a .small)) (l .i) _ _ (l .inv .1) (omega arith) (ap (λ (k : ℕ). l .i * k + 10) (l .inv .0)) (l .inv .3) (c .before .before .from-bytes .ensures) (sym (c .before .less .ensures) ∙ c .if1 .taken),
+      belongs-here (a .out .now) (a .from) (a .to) (num (a .small)) (l .i) _ _ (l .inv .1) (omega arith) (ap (λ (k : ℕ). l .i * k + 10) (l .inv .0)) (l .inv .3) (at-reads (a .out .now) _ _ (c .before .before .from-bytes .ensures)) (sym (c .before .less .ensures) ∙ c .if1 .taken),
     )
 
 add-i : tie.Need-add-i Inv-loop μ-loop
@@ -55,7 +56,7 @@ loop-again c =
       l .inv .0,
       omega arith,
       omega arith,
-      behind-more (a .out .now) (a .from) (a .to) (num (a .small)) (l .i) _ _ (l .inv .1) (omega arith) (ap (λ (k : ℕ). l .i * k + 10) (l .inv .0)) (l .inv .3) (c .before .before .from-bytes .ensures) (sym (c .before .less .ensures) ∙ c .if1 .left),
+      behind-more (a .out .now) (a .from) (a .to) (num (a .small)) (l .i) _ _ (l .inv .1) (omega arith) (ap (λ (k : ℕ). l .i * k + 10) (l .inv .0)) (l .inv .3) (at-reads (a .out .now) _ _ (c .before .before .from-bytes .ensures)) (sym (c .before .less .ensures) ∙ c .if1 .left),
     )
 
 returns-2 : tie.Need-returns-2 Inv-loop μ-loop

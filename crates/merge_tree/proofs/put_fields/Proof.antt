@@ -1,6 +1,7 @@
 use Rattle.merge_tree.proofs.LinePlaces.{fields-written}
 use Rattle.merge_tree.proofs.NumberBytes.{writes-sets}
 use Rattle.sets.specs.Value.{num, bytes}
+use Rattle.sets.proofs.SetBytes.{put-writes}
 use Prim.Native.Nat.{ℕ, _+_}
 use mathlib.Core.Path.{refl, ap}
 use borrow.Author.Needs.{needs}
@@ -50,7 +51,8 @@ returns c =
     (writes-sets _ _ (bytes 2 (a .weight)) (a .start) (a .start) refl (c .before .before .before .before .before .before .before .before .before .before .before .before .before .before .before .before .before .before .before .put-two .ensures))
     (writes-sets _ _ (bytes 4 (a .joins)) (a .start + 2) (a .start + 2) refl (c .before .before .before .before .before .before .before .before .before .before .before .before .before .before .before .put-four .ensures))
     (writes-sets _ _ (bytes 4 (a .into)) (a .start + 6) (a .start + 6) refl (c .before .before .before .before .before .before .before .before .before .before .before .put-four2 .ensures))
-    (c .before .before .before .before .before .before .before .put-bytes .ensures) (c .before .before .put-bytes2 .ensures)
+    (put-writes _ _ _ (num (a .small)) (c .before .before .before .before .before .before .before .put-bytes .ensures))
+    (put-writes _ _ _ (num (a .whole)) (c .before .before .put-bytes2 .ensures))
 
 pub put-fields-spec : {M : Type 1} → statement M
 put-fields-spec =

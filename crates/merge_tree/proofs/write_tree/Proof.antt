@@ -1,4 +1,4 @@
--- The invariant: the output holds the lines of the levels of the links below j. Assumes nothing.
+-- The invariant: the output holds the lines of the levels of the links below `from`. Assumes nothing.
 use Rattle.merge_tree.proofs.SheetPasses.{passes-two, writing-first, writing-next, writing-bound, writing-last}
 use Rattle.merge_tree.proofs.TreeWritten.{Writing}
 use Rattle.runs.proofs.Admitted.{call-sheet}
@@ -18,13 +18,13 @@ use Rattle.merge_tree.proofs.write_tree.Statement.{statement}
 use Rattle.merge_tree.proofs.write_tree.Tie as tie
 
 abbrev Inv-loop : tie.InvT-loop
-Inv-loop sheet m k sets₀ entries₀ smallest₀ unions₀ out₀ rows₀ used₀ n₀ j₀ sets entries smallest unions out rows used n j =
-    (j ≤ m) × (used ≤ room entries) × (length rows ≡ length noRows)
+Inv-loop sheet m k sets₀ entries₀ smallest₀ unions₀ out₀ rows₀ used₀ n₀ from₀ sets entries smallest unions out rows used n from =
+    (from ≤ m) × (used ≤ room entries) × (length rows ≡ length noRows)
     × (length sets ≡ length sets₀) × (length entries ≡ length entries₀) × (length smallest ≡ length smallest₀) × (length unions ≡ length unions₀) × (length out ≡ length out₀)
-    × Writing (linksOf sheet) (parts sheet) k j rows (tables sets entries smallest unions used) out₀ n out
+    × Writing (linksOf sheet) (parts sheet) k from rows (tables sets entries smallest unions used) out₀ n out
 
 abbrev μ-loop : tie.MeasureT-loop
-μ-loop sheet m k sets₀ entries₀ smallest₀ unions₀ out₀ rows₀ used₀ n₀ j₀ sets entries smallest unions out rows used n j = m - j
+μ-loop sheet m k sets₀ entries₀ smallest₀ unions₀ out₀ rows₀ used₀ n₀ from₀ sets entries smallest unions out rows used n from = m - from
 
 clear-requires : tie.Need-clear-requires Inv-loop μ-loop
 clear-requires c κs = search needs
@@ -66,7 +66,7 @@ write-level-requires c κs =
     let a = c .before .before .before .before .before .before .before .before .before .before .before .before .before .before .before .before .before .before .before .before .before .before .before .before .before .before .before .before .before .before .before .before .before .before .before .before .before .before .before .before .before .before .before .args in
     let l = c .before .before .before .before .before .before .before .before .before .before .before .before .before .before .before .before .before .before .before .before .before .before .loop in
     let t = c .before .before .before .before .before .before .before .before .before .before .before .before .before .take-links in
-    let b = writing-bound (a .sheet .now) (a .k) _ (c .before .before .before .before .before .before .before .before .before .before .before .before .before .before .before .before .before .before .before .before .before .before .before .before .before .before .before .before .before .before .before .before .before .before .before .before .before .before .before .before .before .before .before .pre .0) (c .before .before .before .before .before .before .before .before .before .before .before .before .before .before .before .before .before .before .before .before .before .before .before .before .before .before .before .before .before .before .before .before .before .before .before .before .before .before .before .before .before .before .before .pre .2) (a .out .now) (c .before .before .before .before .before .before .before .before .before .before .before .before .before .before .before .before .before .before .before .before .before .before .before .before .before .before .before .before .before .before .before .before .before .before .before .before .before .before .before .before .before .before .before .pre .3) (l .j) (l .rows) _ (l .n) (l .out) (l .inv .8) in
+    let b = writing-bound (a .sheet .now) (a .k) _ (c .before .before .before .before .before .before .before .before .before .before .before .before .before .before .before .before .before .before .before .before .before .before .before .before .before .before .before .before .before .before .before .before .before .before .before .before .before .before .before .before .before .before .before .pre .0) (c .before .before .before .before .before .before .before .before .before .before .before .before .before .before .before .before .before .before .before .before .before .before .before .before .before .before .before .before .before .before .before .before .before .before .before .before .before .before .before .before .before .before .before .pre .2) (a .out .now) (c .before .before .before .before .before .before .before .before .before .before .before .before .before .before .before .before .before .before .before .before .before .before .before .before .before .before .before .before .before .before .before .before .before .before .before .before .before .before .before .before .before .before .before .pre .3) (l .from) (l .rows) _ (l .n) (l .out) (l .inv .8) in
     let s : length (a .out .now) < 2 ^ width = omega (arith, c .before .before .before .before .before .before .before .before .before .before .before .before .before .before .before .before .before .before .before .before .before .before .before .before .before .before .before .before .before .before .before .before .before .before .before .before .before .before .before .before .before .before .before .good) in
     omega (arith, b, s, t .ensures .1 .1, room-within (t .last .1 .1 .1 .0))
 
@@ -89,7 +89,7 @@ loop-again c =
       w .kept .1 .0 ∙ t .kept .1 .1 .1 .1 .0 ∙ l .inv .5,
       w .kept .1 .1 .0 ∙ t .kept .1 .1 .1 .1 .1 .0 ∙ l .inv .6,
       w .kept .1 .1 .1 .1 .1 .1 .0 ∙ l .inv .7,
-      writing-next (a .sheet .now) (a .k) _ (c .before .before .before .before .before .before .before .before .before .before .before .before .before .before .before .before .before .before .before .before .before .before .before .before .before .before .before .before .before .before .before .before .before .before .before .before .before .before .before .before .before .before .before .before .before .before .before .before .before .before .pre .0) (c .before .before .before .before .before .before .before .before .before .before .before .before .before .before .before .before .before .before .before .before .before .before .before .before .before .before .before .before .before .before .before .before .before .before .before .before .before .before .before .before .before .before .before .before .before .before .before .before .before .before .pre .2) (a .out .now) (c .before .before .before .before .before .before .before .before .before .before .before .before .before .before .before .before .before .before .before .before .before .before .before .before .before .before .before .before .before .before .before .before .before .before .before .before .before .before .before .before .before .before .before .before .before .before .before .before .before .before .pre .3) s (l .j) _ (omega (arith, e .0, e .1, c .before .before .before .before .before .before .before .before .before .before .before .before .before .before .before .before .before .before .before .before .before .before .before .before .before .before .before .before .before .before .before .before .before .before .before .before .before .before .before .before .before .before .before .before .before .before .before .before .before .before .pre .1)) (e .2) (l .rows) _ (l .n) (l .out) (l .inv .8) (tables _ _ _ _ (t .result)) _ _ _ _ _ _ (t .ensures .0) (t .ensures .1 .0) (ap (λ (x : Link). x .weight) (c .before .before .before .before .before .before .before .before .before .before .before .before .before .before .before .before .before .before .before .before .before .before .before .before .before .before .before .link .ensures .0)) (w .ensures .0) (w .ensures .1),
+      writing-next (a .sheet .now) (a .k) _ (c .before .before .before .before .before .before .before .before .before .before .before .before .before .before .before .before .before .before .before .before .before .before .before .before .before .before .before .before .before .before .before .before .before .before .before .before .before .before .before .before .before .before .before .before .before .before .before .before .before .before .pre .0) (c .before .before .before .before .before .before .before .before .before .before .before .before .before .before .before .before .before .before .before .before .before .before .before .before .before .before .before .before .before .before .before .before .before .before .before .before .before .before .before .before .before .before .before .before .before .before .before .before .before .before .pre .2) (a .out .now) (c .before .before .before .before .before .before .before .before .before .before .before .before .before .before .before .before .before .before .before .before .before .before .before .before .before .before .before .before .before .before .before .before .before .before .before .before .before .before .before .before .before .before .before .before .before .before .before .before .before .before .pre .3) s (l .from) _ (omega (arith, e .0, e .1, c .before .before .before .before .before .before .before .before .before .before .before .before .before .before .before .before .before .before .before .before .before .before .before .before .before .before .before .before .before .before .before .before .before .before .before .before .before .before .before .before .before .before .before .before .before .before .before .before .before .before .pre .1)) (e .2) (l .rows) _ (l .n) (l .out) (l .inv .8) (tables _ _ _ _ (t .result)) _ _ _ _ _ _ (t .ensures .0) (t .ensures .1 .0) (ap (λ (x : Link). x .weight) (c .before .before .before .before .before .before .before .before .before .before .before .before .before .before .before .before .before .before .before .before .before .before .before .before .before .before .before .link .ensures .0)) (w .ensures .0) (w .ensures .1),
     )
 
 same-length : tie.Need-same-length Inv-loop μ-loop
@@ -111,7 +111,7 @@ returns : tie.Need-returns Inv-loop μ-loop
 returns c =
     let a = c .before .before .before .before .before .before .before .before .before .before .before .before .before .before .before .before .before .before .before .before .before .before .args in
     let l = c .before .loop in
-    writing-last (a .sheet .now) (a .k) _ (c .before .before .before .before .before .before .before .before .before .before .before .before .before .before .before .before .before .before .before .before .before .before .pre .0) (c .before .before .before .before .before .before .before .before .before .before .before .before .before .before .before .before .before .before .before .before .before .before .pre .2) (a .out .now) (c .before .before .before .before .before .before .before .before .before .before .before .before .before .before .before .before .before .before .before .before .before .before .pre .3) (l .j) (l .rows) _ (l .n) (l .out) (omega (arith, c .loop-test .left, c .before .before .before .before .before .before .before .before .before .before .before .before .before .before .before .before .before .before .before .before .before .before .pre .1)) (l .inv .8)
+    writing-last (a .sheet .now) (a .k) _ (c .before .before .before .before .before .before .before .before .before .before .before .before .before .before .before .before .before .before .before .before .before .before .pre .0) (c .before .before .before .before .before .before .before .before .before .before .before .before .before .before .before .before .before .before .before .before .before .before .pre .2) (a .out .now) (c .before .before .before .before .before .before .before .before .before .before .before .before .before .before .before .before .before .before .before .before .before .before .pre .3) (l .from) (l .rows) _ (l .n) (l .out) (omega (arith, c .loop-test .left, c .before .before .before .before .before .before .before .before .before .before .before .before .before .before .before .before .before .before .before .before .before .before .pre .1)) (l .inv .8)
 
 pub write-tree-spec : {M : Type 1} → statement M
 write-tree-spec =

@@ -5,8 +5,8 @@ use native.Mathlib.Omega.{arith}
 use borrow.Author.Needs.{needs}
 use borrow.Author.Tests.{leb-true, not-true, not-false}
 use lib.ListN.{length}
-use Rattle.sets.specs.Value.{num, setBytes, setLength}
-use Rattle.sets.proofs.SetBytes.{set-length, no-room, ReadTo, read-none, read-more, read-bound, read-word, read-all}
+use Rattle.sets.specs.Value.{num, setLength}
+use Rattle.sets.proofs.SetBytes.{ReadTo, read-none, read-more, read-bound, read-word, read-all, read-few}
 use Rattle.sets.proofs.from_bytes.Statement.{statement}
 use Rattle.sets.proofs.from_bytes.Tie as tie
 
@@ -23,16 +23,16 @@ empty-requires : tie.Need-empty-requires Inv-loop μ-loop
 empty-requires c κs = search needs
 
 returns : tie.Need-returns Inv-loop μ-loop
-returns c a b n e l h =
+returns c =
     let g = c .before .before .before .before .args in
-    no-room (g .src .now) a (setBytes n) b (g .at) (sym (c .before .before .has-room .ensures) ∙ not-true _ (c .before .if1 .taken)) e l (set-length n)
+    read-few (g .src .now) (g .at) _ (sym (c .before .before .has-room .ensures) ∙ not-true _ (c .before .if1 .taken)) (c .empty .ensures)
 
 loop-holds : tie.Need-loop-holds Inv-loop μ-loop
 loop-holds c = (
   omega arith,
   leb-true _ _ (sym (c .before .has-room .ensures) ∙ not-false _ (c .if1 .left)),
   omega arith,
-  read-none _ _,
+  read-none (c .before .before .before .args .src .now) (c .before .before .before .args .at),
 )
 
 mul-word : tie.Need-mul-word Inv-loop μ-loop
@@ -64,11 +64,11 @@ loop-again : tie.Need-loop-again Inv-loop μ-loop
 loop-again c =
     let l = c .before .before .loop in
     let y = c .shared-slice-known2 .given (c .before .before .before .before .before .before .args .at + l .i) in
-    (omega arith, l .inv .1, read-bound (l .i) (l .word) _ (l .inv .2) (omega (arith, y)), read-more _ _ (l .i) (l .word) (omega arith) (l .inv .3))
+    (omega arith, l .inv .1, read-bound (l .i) (l .word) _ (l .inv .2) (omega (arith, y)), read-more _ _ (l .i) (l .word) (l .inv .1) (omega arith) (l .inv .3))
 
 returns-2 : tie.Need-returns-2 Inv-loop μ-loop
 unfolding num
-returns-2 c a b n e l h = read-all _ a b _ (c .before .loop .i) _ n (c .before .loop .inv .3) (omega arith) e l h
+returns-2 c = let l = c .before .loop in read-all _ _ (l .i) (l .word) (l .inv .1) (omega arith) (l .inv .3)
 
 pub from-bytes-spec : {M : Type 1} → statement M
 from-bytes-spec =

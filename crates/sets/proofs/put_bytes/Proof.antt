@@ -7,7 +7,7 @@ use borrow.Author.Tests.{leb-true, not-true, not-false}
 use lib.ListN.{length, length-set}
 use lib.Seq.{paste, paste-zero}
 use Rattle.sets.specs.Value.{num, setBytes, setLength}
-use Rattle.sets.proofs.SetBytes.{no-room, put-more, put-all}
+use Rattle.sets.proofs.SetBytes.{put-none, put-more, put-all}
 use Rattle.sets.proofs.put_bytes.Statement.{statement}
 use Rattle.sets.proofs.put_bytes.Tie as tie
 
@@ -21,8 +21,9 @@ has-room-requires : tie.Need-has-room-requires Inv-loop μ-loop
 has-room-requires c κs = search needs
 
 returns : tie.Need-returns Inv-loop μ-loop
-returns c a x b e l m =
-    no-room (c .before .before .before .args .out .now) a x b (c .before .before .before .args .at) (sym (c .before .has-room .ensures) ∙ not-true _ (c .if1 .taken)) e l m
+returns c =
+    let a = c .before .before .before .args in
+    put-none (a .out .now) (a .at) (num (a .s)) (sym (c .before .has-room .ensures) ∙ not-true _ (c .if1 .taken))
 
 loop-holds : tie.Need-loop-holds Inv-loop μ-loop
 loop-holds c =
@@ -67,7 +68,7 @@ same-length c = c .before .loop .inv .2
 
 returns-2 : tie.Need-returns-2 Inv-loop μ-loop
 unfolding num
-returns-2 c a x b e l m = c .before .loop .inv .3 ∙ put-all _ a x b _ _ (c .before .loop .i) e l m (omega arith)
+returns-2 c = let l = c .before .loop in l .inv .3 ∙ put-all _ _ _ (l .i) (l .inv .1) (omega arith)
 
 pub put-bytes-spec : {M : Type 1} → statement M
 put-bytes-spec =

@@ -6,7 +6,7 @@ use Prim.Native.Nat.{ℕ, _+_, _*_}
 use lib.ListN.{length, drop}
 use lib.Seq.{sets-eq}
 use Rattle.sheet.specs.Network.{network, partsOf, linkIn, headBytes, sheetOf}
-use Rattle.sheet.proofs.Written.{head-bytes, linksBytes, bytes-length}
+use Rattle.sheet.proofs.Written.{head-bytes, linksBytes, links-length}
 use Rattle.sheet.proofs.Shape.{sheet-put}
 use Rattle.sheet.proofs.put_sheet.Statement.{statement}
 use Rattle.sheet.proofs.put_sheet.Tie as tie
@@ -54,7 +54,7 @@ returns c =
     let hd = headBytes (partsOf n) m in
     let size = ap length (head-bytes (partsOf n) m) in
     sheet-put (a .out .now) hd (a .names .now) (linksBytes (linkIn n) m) (c .before .before .before .before .before .before .before .before .before .before .put-head .last .0) (c .before .before .before .before .before .before .copy .last .1 .0) (c .before .before .put-links .last .1 .1 .1 .0) k (4 * m)
-    size refl (bytes-length (linkIn n) m) (c .before .before .before .before .before .before .before .before .before .before .before .before .before .before .before .before .before .pre .1)
+    size refl (links-length (linkIn n) m) (c .before .before .before .before .before .before .before .before .before .before .before .before .before .before .before .before .before .pre .1)
     (c .before .before .before .before .before .before .before .before .before .before .put-head .ensures ∙ sets-eq hd (a .out .now) 0 (omega (arith, size, c .before .before .before .before .before .before .before .before .before .before .before .before .before .before .before .before .before .pre .1)) ∙ ap (λ (j : ℕ). hd ++ drop j (a .out .now)) size)
     (c .before .before .before .before .before .before .copy .ensures .1) (c .before .before .put-links .ensures)
 

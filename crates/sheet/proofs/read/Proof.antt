@@ -50,7 +50,7 @@ returns c =
     let a = c .before .before .before .before .before .before .before .before .before .before .before .before .before .before .before .args in
     let f = said-holds _ _ _ _ (sym (ap sheetSays (c .before .before .before .before .before .before .before .p .given .1)) ∙ c .before .before .before .before .before .before .before .before .before .check .ensures) in
     let e = then-go _ _ (f .0) ∙ last-stop _ _ _ (sym (ap₂ (λ (x y : ℕ). roomFor x y (network (a .names .now) (a .lower .now) (a .higher .now) (a .weights .now))) (f .1) (f .2)) ∙ sym (c .before .has-room .ensures) ∙ not-true _ (c .if1 .taken)) in
-    (say-faulty _ _ _ _ e, network-kept _ _ _ _ _ e)
+    record { answer = say-faulty _ _ _ _ e; lists = network-kept _ _ _ _ _ e }
 
 mul-end : tie.Need-mul-end
 mul-end c = let f = said-holds _ _ _ _ (sym (ap sheetSays (c .before .before .before .before .before .before .before .p .given .1)) ∙ c .before .before .before .before .before .before .before .before .before .check .ensures) in let g = good-count _ (sheet-count _ (f .0)) .1 in let k = length-is _ (sheet-length _ (f .0)) in omega (arith, g, f .1)
@@ -82,7 +82,7 @@ returns-2 : tie.Need-returns-2
 unfolding checkRead
 returns-2 c =
     let e = then-stop _ _ _ _ (said-faulty _ _ _ _ (sym (ap sheetSays (c .before .n .given .1)) ∙ c .before .before .before .check .ensures)) in
-    (say-faulty _ _ _ _ e, network-kept _ _ _ _ _ e)
+    record { answer = say-faulty _ _ _ _ e; lists = network-kept _ _ _ _ _ e }
 
 same-length-5 : tie.Need-same-length-5
 same-length-5 c = search needs
@@ -108,14 +108,15 @@ returns-3 c =
     let p = c .before .before .before .before .before .before .before .before .before .before .before .before .before .before .before .before .before .before .before .before .before .before .p .given .0 .0 in
     let e = c .before .before .before .before .before .before .fill-links .ensures in
     let src : take (8 + 8 * p - 8) (drop 8 s) ≡ take (8 * parts s) (drop 8 s) = ap (λ (k : ℕ). take k (drop 8 s)) (let g : 8 + 8 * p - 8 ≡ 8 * parts s = omega (arith, f .1) in g) in
-    let size = length-take-le (8 * parts s) (drop 8 s) (omega (arith, length-drop 8 s, length-is s (sheet-length s (f .0)))) in (
-      say-holds _ _ _ _ v (f .1) (f .2),
-      network-filled s (f .0) (checkRead s n) v (a .names .now) (a .lower .now) (a .higher .now) (a .weights .now) _ _ _ _
+    let size = length-take-le (8 * parts s) (drop 8 s) (omega (arith, length-drop 8 s, length-is s (sheet-length s (f .0)))) in
+    record {
+      answer = say-holds _ _ _ _ v (f .1) (f .2);
+      lists = network-filled s (f .0) (checkRead s n) v (a .names .now) (a .lower .now) (a .higher .now) (a .weights .now) _ _ _ _
           (copied _ _ _ _ _ (c .before .before .before .before .before .before .before .before .before .before .before .before .copy .ensures .1) src size)
           (e .0 ∙ ap (λ (k : ℕ). listOf (λ j. linkOf s j .low) k ++ drop k (a .lower .now)) (f .2))
           (e .1 .0 ∙ ap (λ (k : ℕ). listOf (λ j. linkOf s j .high) k ++ drop k (a .higher .now)) (f .2))
-          (e .1 .1 ∙ ap (λ (k : ℕ). listOf (λ j. linkOf s j .weight) k ++ drop k (a .weights .now)) (f .2)),
-    )
+          (e .1 .1 ∙ ap (λ (k : ℕ). listOf (λ j. linkOf s j .weight) k ++ drop k (a .weights .now)) (f .2));
+    }
 
 pub read-spec : {M : Type 1} → statement M
 read-spec =

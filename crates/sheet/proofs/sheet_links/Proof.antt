@@ -10,7 +10,7 @@ use Rattle.answers.specs.Verdict.{refused, inOrder}
 use Rattle.percolation.specs.Links.{link}
 use Rattle.checks.specs.Model.{linkNumber}
 use Rattle.sheet.specs.Sheet.{parts, linkAt, linkOf, checkLinkAt}
-use Rattle.sheet.specs.Model.{linkRow}
+use Rattle.sheet.specs.Answers.{linkRow}
 use Rattle.sheet.proofs.InTurn.{Passed, passed-none, passed-stop, passed-more}
 use Rattle.sheet.proofs.sheet_links.Statement.{statement}
 use Rattle.sheet.proofs.sheet_links.Tie as tie

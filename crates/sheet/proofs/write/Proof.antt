@@ -39,7 +39,7 @@ returns c =
     let a = c .before .before .before .before .before .before .before .before .before .args in
     let n = network (a .names .now) (a .lower .now) (a .higher .now) (a .weights .now) in
     let e = then-go _ _ (sym (c .before .before .before .check-network .ensures) ∙ ap verdict (c .before .enum-told .given .1)) ∙ last-stop _ _ _ (ap (λ (k : ℕ). leb k (length (a .out .now))) (sheet-size n) ∙ lt-leb _ _ (c .if1 .taken)) in
-    (sym (say-refused _ _ _ _ e), sym (written-refused _ _ _ _ _ e))
+    record { answer = sym (say-refused _ _ _ _ e); bytes = sym (written-refused _ _ _ _ _ e) }
 
 put-sheet-requires : tie.Need-put-sheet-requires
 put-sheet-requires c κs =
@@ -50,7 +50,7 @@ returns-2 : tie.Need-returns-2
 unfolding checkWrite
 returns-2 c =
     let e = then-stop _ _ _ _ (sym (c .before .before .before .check-network .ensures) ∙ ap verdict (c .before .n .given .1)) in
-    (sym (say-refused _ _ _ _ e), sym (written-refused _ _ _ _ _ e))
+    record { answer = sym (say-refused _ _ _ _ e); bytes = sym (written-refused _ _ _ _ _ e) }
 
 same-length : tie.Need-same-length
 same-length c = search needs
@@ -60,10 +60,11 @@ unfolding checkWrite
 returns-3 c =
     let a = c .before .before .before .before .before .before .before .before .before .before .before .before .before .args in
     let n = network (a .names .now) (a .lower .now) (a .higher .now) (a .weights .now) in
-    let e = then-go _ _ (sym (c .before .before .before .before .before .before .before .check-network .ensures) ∙ ap verdict (c .before .before .before .before .before .enum-told .given .1)) ∙ last-go _ _ _ (ap (λ (k : ℕ). leb k (length (a .out .now))) (sheet-size n) ∙ le-leb _ _ (c .before .before .before .before .if1 .left)) in (
-      ap counts (sym (sheet-size n)) ∙ sym (say-accepted _ _ e),
-      c .before .before .put-sheet .ensures ∙ ap (λ (k : ℕ). sheetOf n ++ drop k (a .out .now)) (sym (sheet-size n)) ∙ sym (written-accepted _ _ _ e),
-    )
+    let e = then-go _ _ (sym (c .before .before .before .before .before .before .before .check-network .ensures) ∙ ap verdict (c .before .before .before .before .before .enum-told .given .1)) ∙ last-go _ _ _ (ap (λ (k : ℕ). leb k (length (a .out .now))) (sheet-size n) ∙ le-leb _ _ (c .before .before .before .before .if1 .left)) in
+    record {
+      answer = ap counts (sym (sheet-size n)) ∙ sym (say-accepted _ _ e);
+      bytes = c .before .before .put-sheet .ensures ∙ ap (λ (k : ℕ). sheetOf n ++ drop k (a .out .now)) (sym (sheet-size n)) ∙ sym (written-accepted _ _ _ e);
+    }
 
 pub write-spec : {M : Type 1} → statement M
 write-spec =

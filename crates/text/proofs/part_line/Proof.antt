@@ -32,7 +32,7 @@ same-length : tie.Need-same-length
 same-length c = search needs
 
 returns-2 : tie.Need-returns-2
-returns-2 c = λ N h l. line-part N _ _ _ _ _ _ _ (form-said _ _ _ (c .before .before .before .before .before .enum-told2 .given .1) (c .before .before .before .before .before .before .before .form-of .ensures)) (c .before .before .before .before .word .ensures) (c .before .before .put-part .ensures N h l)
+returns-2 c = λ N h l. line-part N _ _ _ _ _ _ _ (form-said _ _ _ (c .before .before .before .before .before .enum-told2 .given .1) (c .before .before .before .before .before .before .before .form-of .ensures)) (c .before .before .before .before .word .ensures .0) (c .before .before .put-part .ensures N h l)
 
 returns-3 : tie.Need-returns-3
 returns-3 c = λ N h l. line-silent N _ _ _ _ _ (form-said _ _ _ (c .enum-told3 .given .1) (c .before .before .form-of .ensures)) h l refl

@@ -2,8 +2,7 @@ use native.Mathlib.Omega.{arith}
 use borrow.Author.Needs.{needs}
 use Prim.Native.Nat.{_≤_, _-_}
 use lib.ListN.{length}
-use Rattle.words.specs.Lines.{words}
-use Rattle.words.specs.Model.{WordAt}
+use Rattle.words.specs.Lines.{words, WordAt}
 use Rattle.words.proofs.WordLaws.{word-zero, word-there, word-past}
 use Rattle.words.proofs.count_words.Statement.{statement}
 use Rattle.words.proofs.count_words.Tie as tie

@@ -2,7 +2,7 @@ use mathlib.Core.Path.{_≡_, subst}
 use native.Mathlib.Omega.{arith}
 use borrow.Author.Needs.{needs}
 use Prim.Native.Nat.{ℕ, _≤_, _-_}
-use Rattle.words.specs.Model.{WordAt}
+use Rattle.words.specs.Lines.{WordAt}
 use Rattle.words.proofs.WordLaws.{word-zero, word-beyond}
 use Rattle.words.proofs.word_start.Statement.{statement}
 use Rattle.words.proofs.word_start.Tie as tie
