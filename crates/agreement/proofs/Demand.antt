@@ -11,8 +11,8 @@ use Rattle.answers.specs.Answers.{Said, counts, says}
 use Rattle.answers.specs.declared.Answer.{Answer}
 use Rattle.answers.proofs.Laws.{said-count, written-accepted, then-left}
 use Rattle.sets.specs.Lists.{_∈_}
-use Rattle.percolation.specs.Percolate.{Community, adjacent, Chain, ChainListing}
-use Rattle.percolation.specs.Links.{Link, cliques, family, listing}
+use Rattle.percolation.specs.Percolate.{Community, adjacent, Chain}
+use Rattle.percolation.specs.Links.{Link, family, listing}
 use Rattle.percolation.specs.Levels.{Meeting, met, never, meeting, weightOf, MeetsAt, TwoLowest}
 use Rattle.percolation.specs.Steps.{acceptedLinks}
 use Rattle.percolation.proofs.Ranges.{good-k}
@@ -35,7 +35,7 @@ use Rattle.sequential.specs.EveryList.{Inserts, Claim}
 use Rattle.sequential.proofs.Every.{every-list}
 use Rattle.meeting.specs.declared.Met.{Met}
 use Rattle.meeting.specs.Answers.{tells, meetSays, meetSay, meetingOf, checkPair, checkSequential, checkMaximal}
-use Rattle.agreement.specs.Same.{HasLinks, EverySheet}
+use Rattle.agreement.specs.Same.{HasLinks, GivesChains, EverySheet}
 
 -- ---- 1 and 2: the listing of a list of inserts, and of every sheet with exactly the accepted links
 
@@ -53,28 +53,31 @@ module _ (p k n : ℕ) (X : List Link) where
 
   -- by either run (c is what its 15 counts), where it is not refused: the count and the bytes of the listing of the chain classes of the accepted links
   pub sheet-gives : (s : List ℕ) → HasLinks s L → (c : ℕ) (T : Tables) (old : List ℕ) (r : Answer) (U : Tables) (out : List ℕ)
-      → ListingMeets c s k 0 T old r U out → (j : ℕ) → says r ≡ counts j → ChainListing k (cliques L p k) (listing L p k 0) × Gives (listing L p k 0) old j out
+      → ListingMeets c s k 0 T old r U out → (j : ℕ) → says r ≡ counts j → GivesChains p k L old j out
   unfolding checkListing
   sheet-gives s same c T old r U out meets j e =
       let passed = then-left (checkCall s k T) _ (said-count _ _ j (sym e ∙ meets .answer) .0) in
       let two = good-k k (call-k s k T passed) .0 in
-      (all-chains L p k, subst (λ (C : List Community). Gives C old j out) (sheet-listing s two same) (not-refused c s k 0 T old r U out meets j e))
+      record {
+        chains = all-chains L p k;
+        gives = subst (λ (C : List Community). Gives C old j out) (sheet-listing s two same) (not-refused c s k 0 T old r U out meets j e);
+      }
 
   -- so does the listing now, where it is not refused
   pub now-gives : (A : List Said) (S : State) (T : Tables) → Claim p k n X A S T → (old : List ℕ) (r : Answer) (out : List ℕ) → ListingNowMeets S T old r out
-      → (j : ℕ) → says r ≡ counts j → ChainListing k (cliques L p k) (listing L p k 0) × Gives (listing L p k 0) old j out
+      → (j : ℕ) → says r ≡ counts j → GivesChains p k L old j out
   now-gives A S T claim old r out now j e =
       let l = claim .now old r out now in
       let g = said-count _ _ j (sym e ∙ l .answer) in
-      (l .chains, record { count = g .1; bytes = l .bytes ∙ written-accepted _ _ old (g .0) })
+      record { chains = l .chains; gives = record { count = g .1; bytes = l .bytes ∙ written-accepted _ _ old (g .0) } }
 
   -- both methods agree: the same count, and with the same output before it the same output
   pub both-runs : (A : List Said) (S : State) (T : Tables) → Claim p k n X A S T → (old : List ℕ) (a : Answer) (x : List ℕ) → ListingNowMeets S T old a x
       → (s : List ℕ) → HasLinks s L → (c : ℕ) (Y : Tables) (b : Answer) (Z : Tables) (y : List ℕ) → ListingMeets c s k 0 Y old b Z y
       → (i j : ℕ) → says a ≡ counts i → says b ≡ counts j → (i ≡ j) × (x ≡ y)
   both-runs A S T claim old a x now s same c Y b Z y meets i j e f =
-      let g = now-gives A S T claim old a x now i e .1 in
-      let h = sheet-gives s same c Y old b Z y meets j f .1 in
+      let g = now-gives A S T claim old a x now i e .gives in
+      let h = sheet-gives s same c Y old b Z y meets j f .gives in
       (g .count ∙ sym (h .count), g .bytes ∙ sym (h .bytes))
 
 -- the whole, from an accepted start on: the claim of every list, and either run on every sheet with the accepted links

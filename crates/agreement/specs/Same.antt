@@ -22,11 +22,14 @@ pub record HasLinks (s : List ℕ) (L : List Link) : Type 0 where
   pub some : (l : Link) → l ∈ linksOf s → l ∈ L
   pub each : (l : Link) → l ∈ L → l ∈ linksOf s
 
+-- a call that is not refused gives the listing of the chain classes of the k-cliques of L: j is what it counts, `out` the output, which was `old` before it
+pub record GivesChains (p k : ℕ) (L : List Link) (old : List ℕ) (j : ℕ) (out : List ℕ) : Type 0 where
+  pub chains : ChainListing k (cliques L p k) (listing L p k 0)
+  pub gives : Gives (listing L p k 0) old j out
+
 -- what is claimed of the inserts X, which gave the answers A and left the state S and the tables W, where the tables have n slots
 pub record EverySheet (p k n : ℕ) (X : List Link) (A : List Said) (S : State) (W : Tables) : Type 0 where
   pub claim : Claim p k n X A S W
-  -- either run on a sheet with exactly the accepted links (c is what its 15 counts) gives the listing of the chain classes of their k-cliques, or is refused
+  -- either run on a sheet with exactly the accepted links (c is what its 15 counts) gives their listing, or is refused
   pub sheets : (s : List ℕ) → HasLinks s (acceptedLinks p k n [] X) → (c : ℕ) (T : Tables) (old : List ℕ) (r : Answer) (U : Tables) (out : List ℕ)
-      → ListingMeets c s k 0 T old r U out → (j : ℕ) → says r ≡ counts j
-      → ChainListing k (cliques (acceptedLinks p k n [] X) p k) (listing (acceptedLinks p k n [] X) p k 0)
-      × Gives (listing (acceptedLinks p k n [] X) p k 0) old j out
+      → ListingMeets c s k 0 T old r U out → (j : ℕ) → says r ≡ counts j → GivesChains p k (acceptedLinks p k n [] X) old j out
