@@ -2,14 +2,15 @@
 -- theorem over what the calls must do. Assumes nothing.
 use mathlib.Core.Path.{_≡_, refl, sym, _∙_, subst}
 use mathlib.Core.Logic.{_↔_}
+use mathlib.Core.Bool.{Bool}
 use mathlib.Core.List.{List, []}
 use Prim.Native.Nat.{ℕ, _≤_}
 use native.Mathlib.Omega.{arith}
 use lib.ListN.{length}
-use Rattle.answers.specs.Verdict.{Verdict, accepted, refused, _then_}
+use Rattle.answers.specs.Verdict.{Verdict, accepted, refused, _then_, unless}
 use Rattle.answers.specs.Answers.{Said, counts, says}
 use Rattle.answers.specs.declared.Answer.{Answer}
-use Rattle.answers.proofs.Laws.{said-count, written-accepted, then-left}
+use Rattle.answers.proofs.Laws.{said-count, then-left}
 use Rattle.sets.specs.Lists.{_∈_}
 use Rattle.percolation.specs.Percolate.{Community, adjacent, Chain}
 use Rattle.percolation.specs.Links.{Link, family, listing}
@@ -22,9 +23,10 @@ use Rattle.percolation.proofs.Same.{legal-below, listing-same}
 use Rattle.percolation.proofs.Meet.{meeting-of, meeting-at, never-of, never-at, two-lowest}
 use Rattle.slots.specs.Tables.{Tables}
 use Rattle.listings.specs.Listing.{Gives}
+use Rattle.listings.proofs.Outputs.{writes-gives}
 use Rattle.sheet.specs.Sheet.{parts, linksOf, checkSheet}
 use Rattle.sheet.proofs.Sound.{sheet-legal}
-use Rattle.runs.specs.OnSheet.{listingOf, checkListing, ListingMeets}
+use Rattle.runs.specs.OnSheet.{listingOf, ListingMeets}
 use Rattle.runs.specs.Lent.{checkCall}
 use Rattle.runs.proofs.Agreed.{not-refused}
 use Rattle.runs.proofs.Admitted.{call-sheet, call-k}
@@ -34,7 +36,7 @@ use Rattle.sequential.specs.Steps.{checkStart, StartMeets, ListingNowMeets}
 use Rattle.sequential.specs.EveryList.{Inserts, Claim}
 use Rattle.sequential.proofs.Every.{every-list}
 use Rattle.meeting.specs.declared.Met.{Met}
-use Rattle.meeting.specs.Answers.{tells, meetSays, meetSay, meetingOf, checkPair, checkSequential, checkMaximal}
+use Rattle.meeting.specs.Answers.{tells, meetSays, meetSay, meetingOf, checkPair, MeetingMeets}
 use Rattle.agreement.specs.Same.{HasLinks, GivesChains, EverySheet}
 
 -- ---- 1 and 2: the listing of a list of inserts, and of every sheet with exactly the accepted links
@@ -54,9 +56,8 @@ module _ (p k n : ℕ) (X : List Link) where
   -- by either run (c is what its 15 counts), where it is not refused: the count and the bytes of the listing of the chain classes of the accepted links
   pub sheet-gives : (s : List ℕ) → HasLinks s L → (c : ℕ) (T : Tables) (old : List ℕ) (r : Answer) (U : Tables) (out : List ℕ)
       → ListingMeets c s k 0 T old r U out → (j : ℕ) → says r ≡ counts j → GivesChains p k L old j out
-  unfolding checkListing
   sheet-gives s same c T old r U out meets j e =
-      let passed = then-left (checkCall s k T) _ (said-count _ _ j (sym e ∙ meets .answer) .0) in
+      let passed = then-left (checkCall s k T) _ (said-count _ _ j (sym e ∙ meets .writes .answer) .0) in
       let two = good-k k (call-k s k T passed) .0 in
       record {
         chains = all-chains L p k;
@@ -67,9 +68,7 @@ module _ (p k n : ℕ) (X : List Link) where
   pub now-gives : (A : List Said) (S : State) (T : Tables) → Claim p k n X A S T → (old : List ℕ) (r : Answer) (out : List ℕ) → ListingNowMeets S T old r out
       → (j : ℕ) → says r ≡ counts j → GivesChains p k L old j out
   now-gives A S T claim old r out now j e =
-      let l = claim .now old r out now in
-      let g = said-count _ _ j (sym e ∙ l .answer) in
-      record { chains = l .chains; gives = record { count = g .1; bytes = l .bytes ∙ written-accepted _ _ old (g .0) } }
+      let l = claim .now old r out now in record { chains = l .chains; gives = writes-gives _ _ old r out (l .lists) j e }
 
   -- both methods agree: the same count, and with the same output before it the same output
   pub both-runs : (A : List Said) (S : State) (T : Tables) → Claim p k n X A S T → (old : List ℕ) (a : Answer) (x : List ℕ) → ListingNowMeets S T old a x
@@ -93,16 +92,18 @@ unfolding meetSay
 told accepted m x e = (refl, cc)
 told (refused n a) m x e = let q : _≡_ {A = ℕ} 0 1 = cc in absurd (omega arith)
 
--- What a call tells where it is not refused. Both calls check 1 to 13 first; w is what they check after that.
-module _ (s : List ℕ) (k a b : ℕ) (T : Tables) (w : Verdict) (r : Met) (meets : meetSays r ≡ meetSay (checkPair s k a b T then w) (meetingOf s k a b))
-    (m : Meeting) (e : meetSays r ≡ tells m) where
+-- what a call tells where it is not refused, by either run: f says whether what its 15 counts fits
+module _ (s : List ℕ) (k a b : ℕ) (T : Tables) (f : Bool) (r : Met) (U : Tables) (meets : MeetingMeets s k a b T f r U) (m : Meeting) (e : meetSays r ≡ tells m) where
+  abbrev v : Verdict
+  v = checkPair s k a b T then unless f 15 0
+
   pub tells-meeting : m ≡ meeting (linksOf s) (parts s) k a b
   unfolding meetingOf
-  tells-meeting = told (checkPair s k a b T then w) m (meeting (linksOf s) (parts s) k a b) (sym e ∙ meets) .1
+  tells-meeting = told v m (meeting (linksOf s) (parts s) k a b) (sym e ∙ meets .answer) .1
 
   passed : checkCall s k T ≡ accepted
   unfolding checkPair
-  passed = then-left (checkCall s k T) _ (then-left (checkPair s k a b T) w (told (checkPair s k a b T then w) m (meetingOf s k a b) (sym e ∙ meets) .0))
+  passed = then-left (checkCall s k T) _ (then-left (checkPair s k a b T) _ (told v m (meetingOf s k a b) (sym e ∙ meets .answer) .0))
 
   pub told-fine : checkSheet s ≡ accepted
   told-fine = call-sheet s k T passed
@@ -114,42 +115,30 @@ module _ (s : List ℕ) (k a b : ℕ) (T : Tables) (w : Verdict) (r : Met) (meet
   pos = legal-positive (parts s) (linksOf s) (sheet-legal s told-fine)
 
   -- a weight is the largest threshold from 1 at which a chain joins them
-  pub tells-weight : (v : ℕ) → (m ≡ met v) ↔ MeetsAt (linksOf s) (parts s) k a b v
-  tells-weight v = (
-    (λ f. meeting-of (linksOf s) (parts s) k told-two pos a b v (sym tells-meeting ∙ f)),
-    (λ h. tells-meeting ∙ meeting-at (linksOf s) (parts s) k told-two pos a b v h),
+  pub tells-weight : (w : ℕ) → (m ≡ met w) ↔ MeetsAt (linksOf s) (parts s) k a b w
+  tells-weight w = (
+    (λ q. meeting-of (linksOf s) (parts s) k told-two pos a b w (sym tells-meeting ∙ q)),
+    (λ h. tells-meeting ∙ meeting-at (linksOf s) (parts s) k told-two pos a b w h),
   )
 
   -- never, exactly when no chain at any threshold joins them
   pub tells-never : (m ≡ never) ↔ ((t : ℕ) → Chain (adjacent k) (family (linksOf s) (parts s) k t) a b → ⊥)
   tells-never = (
-    (λ f. never-of (linksOf s) (parts s) k told-two pos a b (sym tells-meeting ∙ f)),
+    (λ q. never-of (linksOf s) (parts s) k told-two pos a b (sym tells-meeting ∙ q)),
     (λ h. tells-meeting ∙ never-at (linksOf s) (parts s) k told-two pos a b (λ t o. h t)),
   )
 
--- both calls are of this form
-pub sequential-form : (s : List ℕ) (k a b : ℕ) (T : Tables)
-    → (w : Verdict) × (checkSequential s k a b T ≡ (checkPair s k a b T then w))
-unfolding checkSequential
-sequential-form s k a b T = (_, refl)
-
-pub maximal-form : (s : List ℕ) (k a b : ℕ) (T : Tables) → (w : Verdict) × (checkMaximal s k a b T ≡ (checkPair s k a b T then w))
-unfolding checkMaximal
-maximal-form s k a b T = (_, refl)
-
--- both runs agree where neither is refused, whatever tables they were lent
-pub meetings-agree : (s : List ℕ) (k a b : ℕ) (T U : Tables) (x y : Met) → meetSays x ≡ meetSay (checkSequential s k a b T) (meetingOf s k a b)
-    → meetSays y ≡ meetSay (checkMaximal s k a b U) (meetingOf s k a b) → (m n : Meeting) → meetSays x ≡ tells m → meetSays y ≡ tells n → m ≡ n
-meetings-agree s k a b T U x y f g m n d e =
-    told (checkSequential s k a b T) m (meetingOf s k a b) (sym d ∙ f) .1 ∙ sym (told (checkMaximal s k a b U) n (meetingOf s k a b) (sym e ∙ g) .1)
+-- both runs agree where neither is refused, whatever tables they were lent and whatever their 15 counts
+pub meetings-agree : (s : List ℕ) (k a b : ℕ) (T Z : Tables) (f g : Bool) (x y : Met) (U W : Tables) → MeetingMeets s k a b T f x U
+    → MeetingMeets s k a b Z g y W → (m n : Meeting) → meetSays x ≡ tells m → meetSays y ≡ tells n → m ≡ n
+meetings-agree s k a b T Z f g x y U W p q m n d e = tells-meeting s k a b T f x U p m d ∙ sym (tells-meeting s k a b Z g y W q n e)
 
 -- ---- 4: of three meeting weights the two lowest are equal, never counting as 0; each may come from either run
 
-pub lowest-agree : (s : List ℕ) (k a b c : ℕ) (T U W : Tables) (u v w : Verdict) (x y z : Met)
-    → meetSays x ≡ meetSay (checkPair s k a b T then u) (meetingOf s k a b) → meetSays y ≡ meetSay (checkPair s k b c U then v) (meetingOf s k b c)
-    → meetSays z ≡ meetSay (checkPair s k a c W then w) (meetingOf s k a c) → (l m n : Meeting) → meetSays x ≡ tells l → meetSays y ≡ tells m
+pub lowest-agree : (s : List ℕ) (k a b c : ℕ) (T R W : Tables) (f g h : Bool) (x y z : Met) (X Y Z : Tables) → MeetingMeets s k a b T f x X
+    → MeetingMeets s k b c R g y Y → MeetingMeets s k a c W h z Z → (l m n : Meeting) → meetSays x ≡ tells l → meetSays y ≡ tells m
     → meetSays z ≡ tells n → TwoLowest (weightOf l) (weightOf m) (weightOf n)
-lowest-agree s k a b c T U W u v w x y z f g h l m n d e i =
-    rw (tells-meeting s k a b T u x f l d, tells-meeting s k b c U v y g m e, tells-meeting s k a c W w z h n i)
-    (two-lowest (linksOf s) (parts s) k (told-two s k a b T u x f l d)
-    (legal-positive (parts s) (linksOf s) (sheet-legal s (told-fine s k a b T u x f l d))) a b c)
+lowest-agree s k a b c T R W f g h x y z X Y Z p q r l m n d e i =
+    rw (tells-meeting s k a b T f x X p l d, tells-meeting s k b c R g y Y q m e, tells-meeting s k a c W h z Z r n i)
+    (two-lowest (linksOf s) (parts s) k (told-two s k a b T f x X p l d)
+    (legal-positive (parts s) (linksOf s) (sheet-legal s (told-fine s k a b T f x X p l d))) a b c)

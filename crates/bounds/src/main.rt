@@ -1,34 +1,21 @@
 // Prints the slot bound for a few part counts at each k, a row each: how many slots a run can need at most, or the refusal.
 use answers::Answer;
-use libc::STDOUT_FILENO;
-
-fn number(n: usize) {
-    io::print_decimal(STDOUT_FILENO, n as u64);
-}
+use console::field;
+use console::text;
 
 fn answer(a: Answer) {
     match a {
-        Answer::Count(n) => {
-            io::write_all(STDOUT_FILENO, b"slots ");
-            number(n);
-        }
-        Answer::Refused(n, place) => {
-            io::write_all(STDOUT_FILENO, b"refused ");
-            number(n as usize);
-            io::write_all(STDOUT_FILENO, b" at ");
-            number(place);
-        }
+        Answer::Count(n) => field(b"slots ", n),
+        Answer::Refused(n, place) => trial::refused(n, place),
     }
 }
 
 fn row(p: usize, k: usize) {
-    io::write_all(STDOUT_FILENO, b"parts ");
-    number(p);
-    io::write_all(STDOUT_FILENO, b" k ");
-    number(k);
-    io::write_all(STDOUT_FILENO, b" ");
+    field(b"parts ", p);
+    field(b" k ", k);
+    text(b" ");
     answer(subsets::slot_bound(p, k));
-    io::write_all(STDOUT_FILENO, b"\n");
+    text(b"\n");
 }
 
 // A part count at each k from 1 to 7, of which the first and the last are refused.

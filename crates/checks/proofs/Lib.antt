@@ -1,2 +1,3 @@
+pub mod Cliques13
 pub mod Near
 pub mod Numbers

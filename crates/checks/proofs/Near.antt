@@ -12,6 +12,7 @@ use Rattle.sets.specs.Sets.{has, into}
 use Rattle.sets.specs.Value.{width, rows, row, store, noRows}
 use Rattle.sets.proofs.Tests.{iff, same-or-not, and-intro, and-left, and-right, or-left, or-right, or-cases}
 use Rattle.sets.proofs.Laws.{has-empty, has-into, into-lt}
+use Rattle.sets.proofs.RowNumbers.{none-fits}
 use Rattle.sets.proofs.Tables.{rows-store, row-store, row-other, rows-none, row-none}
 use Rattle.percolation.specs.Links.{Link, joins, linked}
 use Rattle.percolation.proofs.Families.{joins-ends, joins-sym}
@@ -22,7 +23,7 @@ pub near-none : Neighbours [] noRows
 unfolding linked any
 near-none = record {
   count = rows-none;
-  fits = λ a. subst⁻¹ (λ (n : ℕ). n < 2 ^ width) (row-none a) (omega arith);
+  fits = λ a. subst⁻¹ (λ (n : ℕ). n < 2 ^ width) (row-none a) none-fits;
   near = λ a b h g. ap (has b) (row-none a) ∙ has-empty b;
 }
 

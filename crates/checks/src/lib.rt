@@ -1,13 +1,29 @@
-// What several calls test of their numbers: the part count, k, and a link against the links before it, whose neighbours stand in rows.
+// What several calls test of their numbers: the part count, k, a link against the links before it, whose neighbours stand in rows, and a set of parts.
 ghost use mathlib.Core.Path.{_≡_};
-ghost use Rattle.percolation.specs.Links.{link};
-ghost use Rattle.percolation.specs.Ranges.{goodCount, goodK};
-ghost use Rattle.percolation.specs.Steps.{goodParts};
+ghost use mathlib.Core.Bool.{true};
+ghost use mathlib.Core.List.{List};
+ghost use Prim.Native.Nat.{_≤_};
+ghost use lib.Dec.{eqb};
+ghost use Rattle.sets.specs.Lists.{any};
+ghost use Rattle.sets.specs.Value.{width, num};
+ghost use Rattle.percolation.specs.Links.{Link, link, cliques};
+ghost use Rattle.percolation.specs.Ranges.{goodCount, narrowCount, goodK};
+ghost use Rattle.percolation.specs.Steps.{goodParts, legal};
+ghost use Rattle.checks.specs.Inside.{inside};
+ghost use Rattle.checks.specs.Neighbours.{Neighbours};
 ghost use Rattle.checks.specs.Model.{linkNumber, withNeighbour, marked};
+use sets::Set;
 
-// A part count is 1 to 64.
+// A part count is 1 to as many parts as a set can hold.
 pub fn good_count(p: usize) -> bool
     ensures { λ r. ⌜ r ≡ goodCount p ⌝ }
+{
+    1 <= p && p <= sets::most()
+}
+
+// The part count of version 1 of a sheet is 1 to 64.
+pub fn narrow_count(p: usize) -> bool
+    ensures { λ r. ⌜ r ≡ narrowCount p ⌝ }
 {
     1 <= p && p <= 64
 }
@@ -66,4 +82,32 @@ pub fn add_link(rows: &mut [u64], low: usize, high: usize)
 {
     mark(rows, low, high);
     mark(rows, high, low);
+}
+
+// Whether s is a k-clique of parts below p, by the rows of neighbours.
+pub fn is_clique(rows: &[u64], p: usize, k: usize, s: Set) -> bool
+    ensures { λ r. ⌜ ((L : List Link) → Neighbours L (now (rows .entry)) → legal p L ≡ true → p ≤ width → r ≡ any (eqb (num s)) (cliques L p k)) ⌝ }
+{
+    if sets::count(s) != k {
+        return false;
+    }
+    if !sets::subset(s, sets::upto(p)) {
+        return false;
+    }
+    let mut rest = s;
+    while !sets::is_empty(rest) {
+        let q = sets::lowest(rest);
+        if !sets::subset(sets::without(s, q), sets::at(rows, q)) {
+            return false;
+        }
+        rest = sets::without(rest, q);
+    }
+    true
+}
+
+// Whether both ends of a link are parts of s.
+pub fn has_both(s: Set, low: usize, high: usize) -> bool
+    ensures { λ r. ⌜ r ≡ inside (num s) (link low high 0) ⌝ }
+{
+    sets::has(s, low) && sets::has(s, high)
 }

@@ -2,32 +2,26 @@
 use crate::say::error;
 use crate::say::error_field;
 
-// The part count in the sheet's head; 0 where the sheet ends before it.
-fn parts(s: &[u8]) -> u8 {
-    if 5 < s.len() { s[5] } else { 0 }
-}
-
 // Parts are counted from 0, as they are in the sheet.
-fn part_at(place: usize) {
-    if 8 <= place {
-        error_field(b"part ", (place - 8) / 8);
+fn part_at(s: &[u8], place: usize) {
+    if sheet::name_at(s, 0) <= place {
+        error_field(b"part ", sheet::part_of(s, place));
         error(b": ");
     }
 }
 
 // Links are counted from 1.
-fn link_at(p: u8, place: usize) {
-    let first = 8 + 8 * p as usize;
-    if first <= place {
-        error_field(b"link ", (place - first) / 4 + 1);
+fn link_at(s: &[u8], place: usize) {
+    if sheet::link_at(s, 0) <= place {
+        error_field(b"link ", sheet::link_of(s, place) + 1);
         error(b": ");
     }
 }
 
 fn owner(s: &[u8], number: u8, place: usize) {
     match number {
-        5 => part_at(place),
-        6 | 7 | 8 | 9 => link_at(parts(s), place),
+        5 => part_at(s, place),
+        6 | 7 | 8 | 9 => link_at(s, place),
         _ => {}
     }
 }

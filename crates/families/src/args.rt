@@ -59,12 +59,21 @@ fn show(count: usize) -> Order {
     Order::Show
 }
 
+// K, the argument behind the command; that it is no number is told.
+fn k_told() -> Number {
+    let k = number_at(2);
+    if let Number::Not = k {
+        wrong(b"K must be a number, 2 to 6");
+    }
+    k
+}
+
 fn listing(count: usize) -> Order {
     if count != 5 {
         return nothing(b"listing takes K, T and a sheet");
     }
-    let Number::Is(k) = number_at(2) else {
-        return nothing(b"K must be a number, 2 to 6");
+    let Number::Is(k) = k_told() else {
+        return Order::Nothing;
     };
     let Number::Is(t) = number_at(3) else {
         return nothing(b"T must be a number, 0 to 65535");
@@ -79,8 +88,8 @@ fn tree(count: usize) -> Order {
     if count != 4 {
         return nothing(b"tree takes K and a sheet");
     }
-    let Number::Is(k) = number_at(2) else {
-        return nothing(b"K must be a number, 2 to 6");
+    let Number::Is(k) = k_told() else {
+        return Order::Nothing;
     };
     Order::Tree(k)
 }
@@ -89,8 +98,8 @@ fn meet(count: usize) -> Order {
     if count < 5 {
         return nothing(b"meet takes K, names, --, names and a sheet");
     }
-    let Number::Is(k) = number_at(2) else {
-        return nothing(b"K must be a number, 2 to 6");
+    let Number::Is(k) = k_told() else {
+        return Order::Nothing;
     };
     let last = count - 1;
     let middle = dashes(3, last);
@@ -104,8 +113,8 @@ fn slots(count: usize) -> Order {
     if count != 4 {
         return nothing(b"slots takes K and a sheet");
     }
-    let Number::Is(k) = number_at(2) else {
-        return nothing(b"K must be a number, 2 to 6");
+    let Number::Is(k) = k_told() else {
+        return Order::Nothing;
     };
     Order::Slots(k)
 }

@@ -3,11 +3,9 @@
 // Enough for every sheet at k 2 to 4: C(64, 3) is 41,664.
 pub const SLOTS: usize = 65536;
 
-// A community has 16 bytes, and there are no more of them than slots.
-pub const LISTING: usize = 16 * SLOTS;
-
-// A tree of n slots has at most 2 * (n / k) - 1 lines, so for k 2 one less than there are slots; a line has 26 bytes.
-pub const TREE: usize = 26 * (SLOTS - 1);
+// Any answer: a tree of n slots has at most 2 * (n / k) - 1 lines of 26 bytes, so for k 2 one line less than there are slots; a community has 16 bytes, and
+// there are no more of them than slots.
+pub const SPACE: usize = 26 * (SLOTS - 1);
 
 // Input is read a byte further than it may be long, to see whether it is longer.
 pub const LONGEST_SHEET: usize = 65536;

@@ -1,6 +1,7 @@
 // The program `families`: the answers on a link sheet in words, for the people who typed it.
 mod args;
-mod fields;
+mod calls;
+mod heads;
 mod limits;
 mod listing;
 mod meet;
@@ -14,6 +15,8 @@ mod typed;
 mod usage;
 
 use args::Order;
+use calls::Call;
+use calls::ask;
 use console::Loaded;
 use limits::LONGEST_SHEET;
 use limits::SHEET_SPACE;
@@ -21,8 +24,8 @@ use limits::SHEET_SPACE;
 fn answer(order: Order, s: &[u8]) {
     match order {
         Order::Show => show::show(s),
-        Order::Listing(k, t) => listing::listing(s, k, t),
-        Order::Tree(k) => tree::tree(s, k),
+        Order::Listing(k, t) => ask(Call::Listing(k, t), s),
+        Order::Tree(k) => ask(Call::Tree(k), s),
         Order::Meet(k, middle) => meet::meet(s, k, middle),
         Order::Slots(k) => slots::slots(s, k),
         _ => {}

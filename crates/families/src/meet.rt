@@ -1,12 +1,12 @@
 // `meet`: the weight at which two cliques, given by the names of their parts, come to lie in one family.
-use crate::limits::SLOTS;
+use crate::calls::Call;
+use crate::calls::ask;
 use crate::names::find;
 use crate::refusal::tell;
 use console::end;
 use console::error_of;
 use console::field;
 use console::text;
-use meeting::Met;
 use sets::Set;
 use sheet::Checked;
 
@@ -59,54 +59,14 @@ fn clique_of(s: &[u8], p: usize, from: usize, to: usize) -> Clique {
     Clique::Of(set)
 }
 
-// By the sequential run or, where that takes too many slots, by the maximal-clique run.
-fn by_either(
-    s: &[u8],
-    k: usize,
-    a: Set,
-    b: Set,
-    slots: &mut [u64],
-    entries: &mut [u32],
-    smallest: &mut [u64],
-    unions: &mut [u64],
-) -> Met {
-    match meeting::by_sequential(s, k, a, b, slots, entries, smallest, unions) {
-        Met::Weight(w) => Met::Weight(w),
-        Met::Never => Met::Never,
-        Met::Refused(n, place) => {
-            if n == 15 {
-                return meeting::by_maximal(s, k, a, b, slots, entries, smallest, unions);
-            }
-            Met::Refused(n, place)
-        }
+// The weight, or 0 for never.
+pub fn print(weight: usize) {
+    if weight == 0 {
+        text(b"never meet");
+    } else {
+        field(b"meet at weight ", weight);
     }
-}
-
-fn meet_sets(s: &[u8], k: usize, a: Set, b: Set) {
-    let mut slots = [0u64; SLOTS];
-    let mut entries = [0u32; SLOTS];
-    let mut smallest = [0u64; SLOTS];
-    let mut unions = [0u64; SLOTS];
-    match by_either(
-        s,
-        k,
-        a,
-        b,
-        &mut slots,
-        &mut entries,
-        &mut smallest,
-        &mut unions,
-    ) {
-        Met::Weight(w) => {
-            field(b"meet at weight ", w as usize);
-            end();
-        }
-        Met::Never => {
-            text(b"never meet");
-            end();
-        }
-        Met::Refused(n, place) => tell(s, n, place),
-    }
+    end();
 }
 
 // The names stand from argument 3 to the last but one, with `--` at `middle`.
@@ -117,7 +77,7 @@ fn meet_checked(s: &[u8], p: usize, k: usize, middle: usize) {
     let Clique::Of(b) = clique_after(s, p, middle) else {
         return;
     };
-    meet_sets(s, k, a, b);
+    ask(Call::Meet(k, a, b), s);
 }
 
 fn clique_after(s: &[u8], p: usize, middle: usize) -> Clique {

@@ -51,7 +51,7 @@ fn put_out(out: &[u8], n: usize) {
 
 fn put_sheet(names: &[u8], lower: &[u16], higher: &[u16], weights: &[u16]) {
     let mut out = [0u8; LARGEST_SHEET];
-    match sheet::write(names, lower, higher, weights, &mut out) {
+    match sheet_writer::write(names, lower, higher, weights, &mut out) {
         Answer::Count(n) => put_out(&out, n),
         Answer::Refused(n, place) => tell(&out, n, place),
     }

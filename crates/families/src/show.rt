@@ -84,7 +84,7 @@ pub fn show(s: &[u8]) {
     let mut lower = [0u16; LINKS];
     let mut higher = [0u16; LINKS];
     let mut weights = [0u16; LINKS];
-    match sheet::read(s, &mut names, &mut lower, &mut higher, &mut weights) {
+    match sheet_reader::read(s, &mut names, &mut lower, &mut higher, &mut weights) {
         Checked::Fine(p, m) => print(s, p, m, &lower, &higher, &weights),
         Checked::Faulty(n, place) => tell(s, n, place),
     }

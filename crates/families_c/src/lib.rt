@@ -4,111 +4,32 @@ ghost use lib.ListN.{length};
 ghost use Rattle.answers.specs.Answers.{says, sayOf};
 ghost use Rattle.answers.specs.Verdict.{written};
 ghost use Rattle.percolation.specs.Links.{link};
-ghost use Rattle.sheet.specs.Answers.{sheetSays, sheetSay, foundSays, writtenNetwork, checkPart};
+ghost use Rattle.percolation.specs.Steps.{enough};
+ghost use Rattle.sheet.specs.Answers.{sheetSays, sheetSay, foundSays, checkPart};
 ghost use Rattle.sheet.specs.Sheet.{nameAt};
-ghost use Rattle.sheet.specs.Network.{network, networkOf, sheetOf, checkRead, checkWrite};
+ghost use Rattle.sheet.specs.Network.{network, networkOf};
+ghost use Rattle.sheet_reader.specs.Reading.{checkRead, writtenNetwork};
+ghost use Rattle.sheet_writer.specs.Writing.{sheetOf, checkWrite};
 ghost use Rattle.subsets.specs.Subsets.{tableCount, slotBound, checkBound};
 ghost use Rattle.slots.specs.Tables.{tables};
-ghost use Rattle.runs.specs.Lent.{lent, checkCall, left};
-ghost use Rattle.runs.specs.OnSheet.{slotsFor, maximalsFor, ListingMeets};
+ghost use Rattle.runs.specs.Lent.{lent};
+ghost use Rattle.runs.specs.OnSheet.{slotsFor, slotsOf, maximalsFor, ListingMeets};
 ghost use Rattle.sequential.specs.Steps.{StartMeets, InsertMeets, ListingNowMeets};
-ghost use Rattle.meeting.specs.Answers.{meetSays, meetSay, meetingOf, checkPair, checkSequential, checkMaximal};
-ghost use Rattle.merge_tree.specs.OnSheet.{checkTree, treeOf};
-ghost use Rattle.percolation.specs.Tree.{treeBytes};
-ghost use Rattle.families_c.specs.Outcomes.{outcome, shown, sheetShown, meetShown, Shows, ShowsStep};
-use answers::Answer;
-use meeting::Met;
+ghost use Rattle.meeting.specs.Answers.{meetSays, MeetingMeets};
+ghost use Rattle.meeting_maximal.specs.Fits.{levelsFit};
+ghost use Rattle.merge_tree.specs.OnSheet.{TreeMeets};
+ghost use Rattle.outcomes.specs.Outcomes.{outcome, shown, sheetShown, meetShown, Shows, ShowsMeeting, ShowsStep};
+use outcomes::Outcome;
+use outcomes::Started;
+use outcomes::counted;
+use outcomes::of_answer;
+use outcomes::of_meeting;
+use outcomes::of_name;
+use outcomes::of_sheet;
+use outcomes::of_step;
 use sequential::State;
-use sequential::Stepped;
-use sheet::Checked;
-use sheet::Found;
 
-// What a call answers: number 0 with what it counts, or a refusal's number and place.
-#[repr(C)]
-pub struct Outcome {
-    pub number: u8,
-    pub place: usize,
-    pub count: usize,
-    pub parts: usize,
-}
-
-// What a step gives back: its outcome, and the state for the next one.
-#[repr(C)]
-pub struct Started {
-    pub outcome: Outcome,
-    pub state: State,
-}
-
-fn counted(count: usize, parts: usize) -> Outcome
-    ensures { λ r. ⌜ r ≡ outcome 0 0 count parts ⌝ }
-{
-    Outcome {
-        number: 0,
-        place: 0,
-        count,
-        parts,
-    }
-}
-
-fn refused(number: u8, place: usize) -> Outcome
-    ensures { λ r. ⌜ r ≡ outcome number place 0 0 ⌝ }
-{
-    Outcome {
-        number,
-        place,
-        count: 0,
-        parts: 0,
-    }
-}
-
-fn of_answer(answer: Answer) -> Outcome
-    ensures { λ r. ⌜ r ≡ shown (says answer) ⌝ }
-{
-    match answer {
-        Answer::Count(n) => counted(n, 0),
-        Answer::Refused(n, a) => refused(n, a),
-    }
-}
-
-fn of_sheet(checked: Checked) -> Outcome
-    ensures { λ r. ⌜ r ≡ sheetShown (sheetSays checked) ⌝ }
-{
-    match checked {
-        Checked::Fine(p, m) => counted(m, p),
-        Checked::Faulty(n, a) => refused(n, a),
-    }
-}
-
-fn of_name(found: Found) -> Outcome
-    ensures { λ r. ⌜ r ≡ shown (foundSays found) ⌝ }
-{
-    match found {
-        Found::At(a) => counted(a, 0),
-        Found::Missing(n, a) => refused(n, a),
-    }
-}
-
-fn of_meeting(met: Met) -> Outcome
-    ensures { λ r. ⌜ r ≡ meetShown (meetSays met) ⌝ }
-{
-    match met {
-        Met::Weight(w) => counted(w as usize, 0),
-        Met::Never => counted(0, 0),
-        Met::Refused(n, a) => refused(n, a),
-    }
-}
-
-fn of_step(step: Stepped) -> Started
-    ensures { λ r. ⌜ r .outcome ≡ shown (says (step .answer)) ⌝ }
-    ensures { λ r. ⌜ r .state ≡ step .state ⌝ }
-{
-    let answer = step.answer;
-    let state = step.state;
-    let outcome = of_answer(answer);
-    Started { outcome, state }
-}
-
-// sheet::read: count is the links, parts the parts.
+// sheet_reader::read: count is the links, parts the parts.
 #[no_mangle]
 pub extern "C" fn families_read(
     sheet: &[u8],
@@ -120,10 +41,10 @@ pub extern "C" fn families_read(
     ensures { λ r. ⌜ r ≡ sheetShown (sheetSay (checkRead (now (sheet .entry)) (network (now (names .entry)) (now (lower .entry)) (now (higher .entry)) (now (weights .entry)))) (now (sheet .entry))) ⌝ }
     ensures { λ _. ⌜ network (now (names .exit)) (now (lower .exit)) (now (higher .exit)) (now (weights .exit)) ≡ writtenNetwork (checkRead (now (sheet .entry)) (network (now (names .entry)) (now (lower .entry)) (now (higher .entry)) (now (weights .entry)))) (networkOf (now (sheet .entry))) (network (now (names .entry)) (now (lower .entry)) (now (higher .entry)) (now (weights .entry))) ⌝ }
 {
-    of_sheet(sheet::read(sheet, names, lower, higher, weights))
+    of_sheet(sheet_reader::read(sheet, names, lower, higher, weights))
 }
 
-// sheet::write: count is the bytes.
+// sheet_writer::write: count is the bytes.
 #[no_mangle]
 pub extern "C" fn families_write(
     names: &[u8],
@@ -135,7 +56,7 @@ pub extern "C" fn families_write(
     ensures { λ r. ⌜ r ≡ shown (sayOf (checkWrite (network (now (names .entry)) (now (lower .entry)) (now (higher .entry)) (now (weights .entry))) (length (now (out .entry)))) (length (sheetOf (network (now (names .entry)) (now (lower .entry)) (now (higher .entry)) (now (weights .entry)))))) ⌝ }
     ensures { λ _. ⌜ now (out .exit) ≡ written (checkWrite (network (now (names .entry)) (now (lower .entry)) (now (higher .entry)) (now (weights .entry))) (length (now (out .entry)))) (sheetOf (network (now (names .entry)) (now (lower .entry)) (now (higher .entry)) (now (weights .entry)))) (now (out .entry)) ⌝ }
 {
-    of_answer(sheet::write(names, lower, higher, weights, out))
+    of_answer(sheet_writer::write(names, lower, higher, weights, out))
 }
 
 // sheet::find_name: count is where the eight bytes of the part's name start in the sheet.
@@ -218,7 +139,7 @@ pub extern "C" fn families_listing_now(
     of_answer(sequential::listing_now(state, sets, entries, smallest, unions, out))
 }
 
-// sequential::listing: count is the communities.
+// sequential_listing::listing: count is the communities.
 #[no_mangle]
 pub extern "C" fn families_listing_sequential(
     sheet: &[u8],
@@ -232,7 +153,7 @@ pub extern "C" fn families_listing_sequential(
 ) -> Outcome
     ensures { λ r. ⌜ Shows (λ a. ListingMeets (slotsFor (now (sheet .entry)) k t) (now (sheet .entry)) k t (lent (now (sets .entry)) (now (entries .entry)) (now (smallest .entry)) (now (unions .entry))) (now (out .entry)) a (lent (now (sets .exit)) (now (entries .exit)) (now (smallest .exit)) (now (unions .exit))) (now (out .exit))) r ⌝ }
 {
-    of_answer(sequential::listing(sheet, k, t, sets, entries, smallest, unions, out))
+    of_answer(sequential_listing::listing(sheet, k, t, sets, entries, smallest, unions, out))
 }
 
 // maximal::listing: count is the communities.
@@ -252,7 +173,7 @@ pub extern "C" fn families_listing_maximal(
     of_answer(maximal::listing(sheet, k, t, sets, entries, smallest, unions, out))
 }
 
-// meeting::by_sequential: count is the weight, 0 for never.
+// meeting_sequential::meet: count is the weight, 0 for never.
 #[no_mangle]
 pub extern "C" fn families_meeting_sequential(
     sheet: &[u8],
@@ -264,15 +185,14 @@ pub extern "C" fn families_meeting_sequential(
     smallest: &mut [u64],
     unions: &mut [u64],
 ) -> Outcome
-    ensures { λ r. ⌜ r ≡ meetShown (meetSay (checkSequential (now (sheet .entry)) k a b (lent (now (sets .entry)) (now (entries .entry)) (now (smallest .entry)) (now (unions .entry)))) (meetingOf (now (sheet .entry)) k a b)) ⌝ }
-    ensures { λ _. ⌜ lent (now (sets .exit)) (now (entries .exit)) (now (smallest .exit)) (now (unions .exit)) ≡ left (checkPair (now (sheet .entry)) k a b (lent (now (sets .entry)) (now (entries .entry)) (now (smallest .entry)) (now (unions .entry)))) (lent (now (sets .entry)) (now (entries .entry)) (now (smallest .entry)) (now (unions .entry))) ⌝ }
+    ensures { λ r. ⌜ ShowsMeeting (λ m. MeetingMeets (now (sheet .entry)) k a b (lent (now (sets .entry)) (now (entries .entry)) (now (smallest .entry)) (now (unions .entry))) (enough (length (now (entries .entry))) (slotsOf (now (sheet .entry)) k)) m (lent (now (sets .exit)) (now (entries .exit)) (now (smallest .exit)) (now (unions .exit)))) r ⌝ }
 {
     let first = sets::from_word(a);
     let second = sets::from_word(b);
-    of_meeting(meeting::by_sequential(sheet, k, first, second, sets, entries, smallest, unions))
+    of_meeting(meeting_sequential::meet(sheet, k, first, second, sets, entries, smallest, unions))
 }
 
-// meeting::by_maximal: count is the weight, 0 for never.
+// meeting_maximal::meet: count is the weight, 0 for never.
 #[no_mangle]
 pub extern "C" fn families_meeting_maximal(
     sheet: &[u8],
@@ -284,12 +204,11 @@ pub extern "C" fn families_meeting_maximal(
     smallest: &mut [u64],
     unions: &mut [u64],
 ) -> Outcome
-    ensures { λ r. ⌜ r ≡ meetShown (meetSay (checkMaximal (now (sheet .entry)) k a b (lent (now (sets .entry)) (now (entries .entry)) (now (smallest .entry)) (now (unions .entry)))) (meetingOf (now (sheet .entry)) k a b)) ⌝ }
-    ensures { λ _. ⌜ lent (now (sets .exit)) (now (entries .exit)) (now (smallest .exit)) (now (unions .exit)) ≡ left (checkPair (now (sheet .entry)) k a b (lent (now (sets .entry)) (now (entries .entry)) (now (smallest .entry)) (now (unions .entry)))) (lent (now (sets .entry)) (now (entries .entry)) (now (smallest .entry)) (now (unions .entry))) ⌝ }
+    ensures { λ r. ⌜ ShowsMeeting (λ m. MeetingMeets (now (sheet .entry)) k a b (lent (now (sets .entry)) (now (entries .entry)) (now (smallest .entry)) (now (unions .entry))) (levelsFit (now (sheet .entry)) k (length (now (entries .entry)))) m (lent (now (sets .exit)) (now (entries .exit)) (now (smallest .exit)) (now (unions .exit)))) r ⌝ }
 {
     let first = sets::from_word(a);
     let second = sets::from_word(b);
-    of_meeting(meeting::by_maximal(sheet, k, first, second, sets, entries, smallest, unions))
+    of_meeting(meeting_maximal::meet(sheet, k, first, second, sets, entries, smallest, unions))
 }
 
 // merge_tree::lines: count is the lines.
@@ -303,9 +222,7 @@ pub extern "C" fn families_tree(
     unions: &mut [u64],
     out: &mut [u8],
 ) -> Outcome
-    ensures { λ r. ⌜ r ≡ shown (sayOf (checkTree (now (sheet .entry)) k (lent (now (sets .entry)) (now (entries .entry)) (now (smallest .entry)) (now (unions .entry))) (length (now (out .entry)))) (length (treeOf (now (sheet .entry)) k))) ⌝ }
-    ensures { λ _. ⌜ now (out .exit) ≡ written (checkTree (now (sheet .entry)) k (lent (now (sets .entry)) (now (entries .entry)) (now (smallest .entry)) (now (unions .entry))) (length (now (out .entry)))) (treeBytes (treeOf (now (sheet .entry)) k)) (now (out .entry)) ⌝ }
-    ensures { λ _. ⌜ lent (now (sets .exit)) (now (entries .exit)) (now (smallest .exit)) (now (unions .exit)) ≡ left (checkCall (now (sheet .entry)) k (lent (now (sets .entry)) (now (entries .entry)) (now (smallest .entry)) (now (unions .entry)))) (lent (now (sets .entry)) (now (entries .entry)) (now (smallest .entry)) (now (unions .entry))) ⌝ }
+    ensures { λ r. ⌜ Shows (λ a. TreeMeets (now (sheet .entry)) k (lent (now (sets .entry)) (now (entries .entry)) (now (smallest .entry)) (now (unions .entry))) (now (out .entry)) a (lent (now (sets .exit)) (now (entries .exit)) (now (smallest .exit)) (now (unions .exit))) (now (out .exit))) r ⌝ }
 {
     of_answer(merge_tree::lines(sheet, k, sets, entries, smallest, unions, out))
 }

@@ -2,25 +2,27 @@
 use mathlib.Core.Path.{_≡_, refl, sym, ap, ap₂, _∙_, subst}
 use mathlib.Core.Logic.{_⊎_, inl, inr}
 use mathlib.Core.Bool.{true, false}
-use mathlib.Core.List.{List, [], _∷_, _++_, append-assoc, List·Memᴰ·not-nil}
-use Prim.Native.Nat.{ℕ, zero, suc, _+_, _*_, _-_, _/_, _≤_, _<_, _^_}
+use mathlib.Core.List.{List, [], _∷_, _++_, List·Memᴰ·not-nil}
+use Prim.Native.Nat.{ℕ, _+_, _*_, _-_, _/_, _≤_, _<_, _^_}
 use native.Mathlib.Numerals.{add-one}
 use native.Mathlib.Omega.{arith}
-use lib.Dec.{eqb, leb}
-use lib.ListN.{length, take, drop, length-append, length-drop, take-append-drop}
+use lib.Dec.{eqb}
+use lib.ListN.{length, take, drop, length-append, length-drop}
 use lib.Seq.{length-take-le, drop-drop}
-use borrow.Author.Tests.{le-leb, lt-leb}
 use Rattle.answers.specs.Verdict.{accepted, refused, written}
-use Rattle.answers.proofs.Laws.{last-go, last-stop, written-accepted}
-use Rattle.sets.specs.Lists.{_∈_}
-use Rattle.sets.specs.Value.{width, row, setLength}
-use Rattle.sets.proofs.Tests.{split}
+use Rattle.answers.proofs.Laws.{written-accepted}
+use Rattle.sets.specs.Lists.{_∈_, insertBy}
+use Rattle.sets.specs.Value.{width, row}
+use Rattle.sets.proofs.ListLaws.{keep-below-le}
+use Rattle.sets.proofs.Insertion.{insert-of}
 use Rattle.percolation.specs.Percolate.{Community, shown, listingBytes}
 use Rattle.slots.specs.Tables.{rootOf}
+use Rattle.records.proofs.InBytes.{parted}
 use Rattle.listings.specs.Listing.{checkOut}
-use Rattle.listings.specs.Model.{inserted, rootSlots, standsAt, listed}
-use Rattle.listings.proofs.Places.{listing-length}
-use Rattle.listings.proofs.Listed.{inserted-of, roots-yes, roots-no, listed-length, listed-none, listed-yes, listed-no}
+use Rattle.listings.specs.Model.{bySmall, rootSlots, standsAt, listed}
+use Rattle.listings.proofs.Outputs.{out-short, out-fits}
+use Rattle.listings.proofs.Places.{stride, listing-length}
+use Rattle.listings.proofs.Listed.{roots-yes, roots-no, listed-length, listed-none, listed-yes, listed-no}
 
 -- ---- how many ends stand below a slot
 
@@ -35,43 +37,25 @@ module _ (es : List ℕ) where
   pub ends-no : (i : ℕ) → eqb (rootOf es i) i ≡ false → length (rootSlots es (i + 1)) ≡ length (rootSlots es i)
   ends-no i e = ap (λ (j : ℕ). length (rootSlots es j)) (add-one i) ∙ ap length (roots-no es i e)
 
-  one-more : (i : ℕ) → length (rootSlots es i) ≤ length (rootSlots es (i + 1))
-  one-more i = go (split (eqb (rootOf es i) i))
-    where
-      go : (eqb (rootOf es i) i ≡ true) ⊎ (eqb (rootOf es i) i ≡ false) → length (rootSlots es i) ≤ length (rootSlots es (i + 1))
-      go (inl e) = omega (arith, ends-yes i e)
-      go (inr e) = omega (arith, ends-no i e)
-
-  some-more : (i d : ℕ) → length (rootSlots es i) ≤ length (rootSlots es (i + d))
-  some-more i zero = let e : length (rootSlots es (i + 0)) ≡ length (rootSlots es i) = ap (λ (j : ℕ). length (rootSlots es j)) (let z : i + 0 ≡ i = omega arith in z) in omega arith
-  some-more i (suc d) =
-      let e : length (rootSlots es (i + 1 + d)) ≡ length (rootSlots es (i + suc d)) = ap (λ (j : ℕ). length (rootSlots es j)) (let z : i + 1 + d ≡ i + suc d = omega arith in z) in
-      omega (arith, one-more i, some-more (i + 1) d)
-
   -- no fewer below a later slot
   pub ends-le : (i n : ℕ) → i ≤ n → length (rootSlots es i) ≤ length (rootSlots es n)
-  ends-le i n h =
-      let e : length (rootSlots es (i + (n - i))) ≡ length (rootSlots es n) = ap (λ (j : ℕ). length (rootSlots es j)) (let z : i + (n - i) ≡ n = omega arith in z) in
-      omega (arith, some-more i (n - i))
+  unfolding rootSlots
+  ends-le i n h = keep-below-le (λ j. eqb (rootOf es j) j) i n h
 
 -- ---- their listing, at the start of the output
-
--- how many bytes a community has
-abbrev pub step : ℕ
-step = setLength + setLength
 
 -- out holds the listing of the n ends below slot i, and behind it what stood there before
 pub record Filled (es ms us before : List ℕ) (i n : ℕ) (out : List ℕ) : Type 0 where
   pub count : n ≡ length (rootSlots es i)
-  pub bytes : out ≡ listingBytes (listed es ms us i) ++ drop (n * step) before
+  pub bytes : out ≡ listingBytes (listed es ms us i) ++ drop (n * stride) before
   pub fits : (c : Community) → c ∈ listed es ms us i → c .small < 2 ^ width
   pub long : length out ≡ length before
 
 -- what `put` gives of the output: c among any n communities whose listing stands at its start
 abbrev pub Inserts : List ℕ → List ℕ → ℕ → Community → Type 0
 Inserts out next n c =
-    (C : List Community) (x rest : List ℕ) → out ≡ listingBytes C ++ x ++ rest → length C ≡ n → length x ≡ step
-    → ((d : Community) → d ∈ C → d .small < 2 ^ width) → next ≡ listingBytes (inserted c C) ++ rest
+    (C : List Community) (x rest : List ℕ) → out ≡ listingBytes C ++ x ++ rest → length C ≡ n → length x ≡ stride
+    → ((d : Community) → d ∈ C → d .small < 2 ^ width) → next ≡ listingBytes (insertBy bySmall c C) ++ rest
 
 module _ (es ms us before : List ℕ) where
   pub filled-none : Filled es ms us before 0 0 before
@@ -87,7 +71,7 @@ module _ (es ms us before : List ℕ) where
     pub filled-no : (m : ℕ) (next : List ℕ) → eqb (rootOf es i) i ≡ false → m ≡ n → next ≡ out → Filled es ms us before (i + 1) m next
     filled-no m next e g h = record {
       count = g ∙ f .count ∙ sym (ends-no es i e);
-      bytes = h ∙ f .bytes ∙ ap₂ (λ (C : List Community) (j : ℕ). listingBytes C ++ drop (j * step) before) (sym same) (sym g);
+      bytes = h ∙ f .bytes ∙ ap₂ (λ (C : List Community) (j : ℕ). listingBytes C ++ drop (j * stride) before) (sym same) (sym g);
       fits = λ c i. f .fits c (subst (λ (C : List Community). c ∈ C) same i);
       long = ap length h ∙ f .long;
     }
@@ -97,7 +81,7 @@ module _ (es ms us before : List ℕ) where
 
     -- an end more
     module _ (e : eqb (rootOf es i) i ≡ true) where
-      pub filled-room : (used : ℕ) → length (listingBytes (listed es ms us used)) ≤ length before → i < used → n * step + step ≤ length out
+      pub filled-room : (used : ℕ) → length (listingBytes (listed es ms us used)) ≤ length before → i < used → n * stride + stride ≤ length out
       filled-room used h l = omega (
         arith,
         f .count,
@@ -108,14 +92,14 @@ module _ (es ms us before : List ℕ) where
         listing-length (listed es ms us used),
       )
 
-      pub filled-yes : (s w m : ℕ) (next last : List ℕ) → s ≡ row ms i → w ≡ row us i → s < 2 ^ width → n * step + step ≤ length out → Inserts out last n (shown s w)
+      pub filled-yes : (s w m : ℕ) (next last : List ℕ) → s ≡ row ms i → w ≡ row us i → s < 2 ^ width → n * stride + stride ≤ length out → Inserts out last n (shown s w)
           → length last ≡ length out → m ≡ n + 1 → next ≡ last → Filled es ms us before (i + 1) m next
       unfolding standsAt
       filled-yes s w m next last p q small room put kept g h = record {
         count = g ∙ ap (λ (j : ℕ). j + 1) (f .count) ∙ sym (ends-yes es i e);
-        bytes = h ∙ put old (take step rest) (drop step rest) parted (listed-length es ms us i ∙ sym (f .count)) (length-take-le step rest enough) (f .fits)
-            ∙ ap₂ (λ (C : List Community) (l : List ℕ). listingBytes C ++ l) (sym more) (drop-drop step (n * step) before ∙ ap (λ (j : ℕ). drop j before) size);
-        fits = λ c i. inside c (inserted-of (shown s w) old (subst (λ (C : List Community). c ∈ C) more i));
+        bytes = h ∙ put old (take stride rest) (drop stride rest) (parted out (listingBytes old) rest stride (f .bytes)) (listed-length es ms us i ∙ sym (f .count)) (length-take-le stride rest enough) (f .fits)
+            ∙ ap₂ (λ (C : List Community) (l : List ℕ). listingBytes C ++ l) (sym more) (drop-drop stride (n * stride) before ∙ ap (λ (j : ℕ). drop j before) size);
+        fits = λ c i. inside c (insert-of bySmall (shown s w) old (subst (λ (C : List Community). c ∈ C) more i));
         long = ap length h ∙ kept ∙ f .long;
       }
         where
@@ -123,21 +107,16 @@ module _ (es ms us before : List ℕ) where
           old = listed es ms us i
 
           rest : List ℕ
-          rest = drop (n * step) before
+          rest = drop (n * stride) before
 
-          enough : step ≤ length rest
-          enough = omega (arith, length-drop (n * step) before, f .long)
+          enough : stride ≤ length rest
+          enough = omega (arith, length-drop (n * stride) before, f .long)
 
-          parted : out ≡ listingBytes old ++ take step rest ++ drop step rest
-          parted =
-              f .bytes ∙ ap (λ (l : List ℕ). listingBytes old ++ l) (sym (take-append-drop step rest))
-              ∙ sym (append-assoc (listingBytes old) (take step rest) (drop step rest))
-
-          size : n * step + step ≡ m * step
+          size : n * stride + stride ≡ m * stride
           size = omega arith
 
-          more : listed es ms us (i + 1) ≡ inserted (shown s w) old
-          more = ap (listed es ms us) (add-one i) ∙ listed-yes es ms us i e ∙ ap₂ (λ (a b : ℕ). inserted (shown a b) old) (sym p) (sym q)
+          more : listed es ms us (i + 1) ≡ insertBy bySmall (shown s w) old
+          more = ap (listed es ms us) (add-one i) ∙ listed-yes es ms us i e ∙ ap₂ (λ (a b : ℕ). insertBy bySmall (shown a b) old) (sym p) (sym q)
 
           inside : (c : Community) → (c ≡ shown s w) ⊎ c ∈ old → c .small < 2 ^ width
           inside c (inl d) = subst (λ (x : Community). x .small < 2 ^ width) (sym d) small
@@ -150,25 +129,23 @@ module _ (es ms us before : List ℕ) where
         ∙ sym (written-accepted accepted (listingBytes (listed es ms us i)) before refl)
         ∙ ap (λ (j : ℕ). written accepted (listingBytes (listed es ms us j)) before) e
       where
-        size : n * step ≡ length (listingBytes (listed es ms us i))
-        size = sym (listing-length (listed es ms us i) ∙ ap (λ (j : ℕ). j * step) (listed-length es ms us i ∙ sym (f .count)))
+        size : n * stride ≡ length (listingBytes (listed es ms us i))
+        size = sym (listing-length (listed es ms us i) ∙ ap (λ (j : ℕ). j * stride) (listed-length es ms us i ∙ sym (f .count)))
 
 -- ---- room for the listing of n communities of b bytes each
 
-module _ (C : List Community) (n b len : ℕ) (count : n ≡ length C) (size : b ≡ step) where
-  whole : length (listingBytes C) ≡ n * step
-  whole = listing-length C ∙ ap (λ (j : ℕ). j * step) (sym count)
+module _ (C : List Community) (n b len : ℕ) (count : n ≡ length C) (size : b ≡ stride) where
+  whole : length (listingBytes C) ≡ n * stride
+  whole = listing-length C ∙ ap (λ (j : ℕ). j * stride) (sym count)
 
-  fitting : len / b ≡ len / step
+  fitting : len / b ≡ len / stride
   fitting = ap (λ (j : ℕ). len / j) size
 
-  pub room-short : len / b < n → checkOut C len ≡ refused 16 0
-  unfolding checkOut
-  room-short h = last-stop (leb (length (listingBytes C)) len) 16 0 (lt-leb _ len (omega (arith, whole, fitting)))
+  pub room-short : len / b < n → checkOut (listingBytes C) len ≡ refused 16 0
+  room-short h = out-short (listingBytes C) len (omega (arith, whole, fitting))
 
   pub room-enough : n ≤ len / b → length (listingBytes C) ≤ len
   room-enough h = omega (arith, whole, fitting)
 
-  pub room-passed : n ≤ len / b → checkOut C len ≡ accepted
-  unfolding checkOut
-  room-passed h = last-go (leb (length (listingBytes C)) len) 16 0 (le-leb _ len (room-enough h))
+  pub room-passed : n ≤ len / b → checkOut (listingBytes C) len ≡ accepted
+  room-passed h = out-fits (listingBytes C) len (room-enough h)

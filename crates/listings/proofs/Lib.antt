@@ -1,3 +1,4 @@
 pub mod Filling
 pub mod Listed
+pub mod Outputs
 pub mod Places

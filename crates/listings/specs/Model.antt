@@ -1,26 +1,18 @@
 -- Model of the code: communities put in the order of their smallest cliques, and those that stand at the ends of slots. That these are the
 -- communities of the family that the tables show is proved of it (proofs/Listed.antt). Assumes nothing.
-use mathlib.Core.Bool.{true, false}
-use mathlib.Core.List.{List, [], _∷_, map}
+use mathlib.Core.Bool.{Bool}
+use mathlib.Core.List.{List, [], map}
 use Prim.Native.Nat.{ℕ}
 use lib.Dec.{eqb}
-use Rattle.sets.specs.Lists.{keep, below}
+use Rattle.sets.specs.Lists.{keep, below, insertAll}
 use Rattle.sets.specs.Sets.{before}
 use Rattle.sets.specs.Value.{row}
 use Rattle.percolation.specs.Percolate.{Community, shown}
 use Rattle.slots.specs.Tables.{rootOf}
 
--- c before the first whose smallest clique comes after its own
-unfoldable pub inserted : Community → List Community → List Community
-unfolding before
-inserted c [] = c ∷ []
-inserted c (d ∷ C) = elim (before (c .small) (d .small)) [ true ↦ c ∷ d ∷ C | false ↦ d ∷ inserted c C ]
-
--- each of a list inserted, one after the other
-unfoldable pub insertedAll : List Community → List Community → List Community
-unfolding inserted
-insertedAll C [] = C
-insertedAll C (d ∷ D) = insertedAll (inserted d C) D
+-- the order of a listing: by smallest clique
+abbrev pub bySmall : Community → Community → Bool
+bySmall c d = before (c .small) (d .small)
 
 -- the slots below n that are their own ends
 unfoldable pub rootSlots : List ℕ → ℕ → List ℕ
@@ -34,5 +26,5 @@ standsAt ms us i = shown (row ms i) (row us i)
 
 -- what stands at the ends of the n used slots, by smallest clique
 unfoldable pub listed : List ℕ → List ℕ → List ℕ → ℕ → List Community
-unfolding insertedAll rootSlots standsAt
-listed es ms us n = insertedAll [] (map (standsAt ms us) (rootSlots es n))
+unfolding insertAll before rootSlots standsAt
+listed es ms us n = insertAll bySmall [] (map (standsAt ms us) (rootSlots es n))

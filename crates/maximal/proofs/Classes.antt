@@ -1,7 +1,7 @@
 -- The maximal-clique run on an admitted sheet: 15 by its maximal cliques, and what stands in the rows of their classes is the listing. Assumes nothing.
 use mathlib.Core.Path.{_≡_, sym, ap, ap₂, _∙_, subst, subst⁻¹}
 use mathlib.Core.Logic.{_⊎_, inl, inr}
-use mathlib.Core.Bool.{true}
+use mathlib.Core.Bool.{true, false}
 use mathlib.Core.List.{List, [], map, Memᴰ·cast, Memᴰ·map, Memᴰ·of-map}
 use Prim.Native.Nat.{ℕ, _≤_, _<_, _^_}
 use native.Mathlib.Omega.{arith}
@@ -14,26 +14,22 @@ use Rattle.sets.proofs.Tests.{lt-or-le}
 use Rattle.sets.proofs.ListLaws.{Holds, below-of, below-at}
 use Rattle.percolation.specs.Percolate.{communities}
 use Rattle.percolation.specs.Links.{Link, heavy, cliques, family, listing, maximals}
-use Rattle.percolation.specs.Steps.{legal}
+use Rattle.percolation.specs.Steps.{legal, enough}
 use Rattle.percolation.proofs.Ranges.{good-k}
 use Rattle.percolation.proofs.Maximal.{maximals-of, maximal-shows}
 use Rattle.checks.specs.Neighbours.{Neighbours}
-use Rattle.slots.specs.Tables.{Tables, room}
-use Rattle.slots.specs.Shows.{Level}
-use Rattle.slots.proofs.Follow.{root-none}
-use Rattle.slots.proofs.Lengths.{room-within}
+use Rattle.slots.specs.Tables.{Tables, Level, room}
+use Rattle.joining.proofs.Follow.{root-none}
+use Rattle.slots.proofs.Lengths.{room-within, enough-room, enough-short, level-sets, level-smallest, level-unions}
 use Rattle.sheet.specs.Sheet.{parts, linksOf, checkSheet}
-use Rattle.sheet.proofs.Sound.{sheet-legal}
 use Rattle.listings.specs.Model.{standsAt, listed}
 use Rattle.listings.proofs.Listed.{listed-of, listed-at, listed-same}
 use Rattle.runs.specs.Lent.{checkCall}
 use Rattle.runs.specs.Model.{rowsWith}
 use Rattle.runs.specs.OnSheet.{listingOf, maximalsFor}
 use Rattle.runs.proofs.Admitted.{call-sheet, call-k, call-level}
-use Rattle.runs.proofs.InSheet.{parts-width}
-use Rattle.runs.proofs.Falling.{heavy-legal}
+use Rattle.runs.proofs.InSheet.{parts-width, first-legal, first-near}
 use Rattle.runs.proofs.Left.{level-of}
-use Rattle.runs.proofs.Ran.{run-near}
 use Rattle.maximal_search.specs.Model.{maximalsBy, Found, found, foundAll}
 use Rattle.maximal_search.proofs.Maxima.{maxima-of, maxima-at, maxima-count, maxima-fits}
 use Rattle.maximal_search.proofs.FoundSets.{found-count, found-full, found-rows, found-rows-kept}
@@ -52,7 +48,7 @@ module _ (s : List ℕ) (k t : ℕ) (T : Tables) (ok : checkCall s k T ≡ accep
   sheet = call-sheet s k T ok
 
   links : legal p L ≡ true
-  links = heavy-legal p t (linksOf s) (sheet-legal s sheet)
+  links = first-legal s sheet n L first
 
   pub run-wide : parts s ≤ width
   run-wide = parts-width s sheet
@@ -63,7 +59,7 @@ module _ (s : List ℕ) (k t : ℕ) (T : Tables) (ok : checkCall s k T ≡ accep
   module _ (R : List ℕ) (q r c : ℕ) (S : List ℕ) (rows-are : R ≡ rowsWith noRows (take n (linksOf s))) (same : q ≡ parts s) (free : r ≡ room (T .entries))
       (search : found S c ≡ foundAll r (found (T .sets) 0) (maximalsBy R q k)) where
     near : Neighbours L R
-    near = subst⁻¹ (Neighbours L) (rows-are ∙ ap (rowsWith noRows) first) (run-near p L run-wide links)
+    near = first-near s sheet n L first R rows-are
 
     -- the maximal cliques as they were found
     abbrev M : List ℕ
@@ -88,18 +84,18 @@ module _ (s : List ℕ) (k t : ℕ) (T : Tables) (ok : checkCall s k T ≡ accep
     all-in : length M ≤ r → c ≡ length M
     all-in h = ap (λ (f : Found). f .count) filled ∙ found-count r (T .sets) M h
 
-    pub run-short : r < c → room (T .entries) < maximalsFor s k t
-    run-short h = go (lt-or-le r (length M))
+    pub too-many : r < c → enough (length (T .entries)) (maximalsFor s k t) ≡ false
+    too-many h = go (lt-or-le r (length M))
       where
-        go : (r < length M) ⊎ (length M ≤ r) → room (T .entries) < maximalsFor s k t
-        go (inl l) = omega (arith, count, free)
+        go : (r < length M) ⊎ (length M ≤ r) → enough (length (T .entries)) (maximalsFor s k t) ≡ false
+        go (inl l) = enough-short (T .entries) (maximalsFor s k t) (omega (arith, count, free))
         go (inr l) = absurd (omega (arith, all-in l))
 
     -- ---- the classes
 
     module _ (h : c ≤ r) where
-      pub run-fits : maximalsFor s k t ≤ room (T .entries)
-      run-fits = omega (arith, few h, count, free)
+      pub all-fit : enough (length (T .entries)) (maximalsFor s k t) ≡ true
+      all-fit = enough-room (T .entries) (maximalsFor s k t) (omega (arith, few h, count, free))
 
       level : Level T
       level = level-of T (call-level s k T ok)
@@ -108,12 +104,12 @@ module _ (s : List ℕ) (k t : ℕ) (T : Tables) (ok : checkCall s k T ≡ accep
       long = omega (arith, free, room-within (T .entries) .0)
 
       rows-kept : rows S ≡ length (T .entries)
-      rows-kept = ap (λ (f : Found). rows (f .sets)) filled ∙ found-rows-kept r (T .sets) 0 M ∙ level .sets
+      rows-kept = ap (λ (f : Found). rows (f .sets)) filled ∙ found-rows-kept r (T .sets) 0 M ∙ level-sets T level
 
       first-rows : firstRows c S ≡ M
       first-rows =
           ap₂ (λ (j : ℕ) (A : List ℕ). map (row A) (below j)) (all-in (few h)) (ap (λ (f : Found). f .sets) filled)
-          ∙ found-rows r (T .sets) M (few h) (omega (arith, level .sets, free, room-within (T .entries) .0)) (maxima-fits L p R links run-wide near k)
+          ∙ found-rows r (T .sets) M (few h) (omega (arith, level-sets T level, free, room-within (T .entries) .0)) (maxima-fits L p R links run-wide near k)
 
       module _ (A ms us : List ℕ) (g : ℕ) (sorted : classed A ms us g ≡ classedAll k c S (T .smallest) (T .unions)) where
         to-m : (x : ℕ) → x ∈ firstRows c S → x ∈ M
@@ -135,10 +131,10 @@ module _ (s : List ℕ) (k t : ℕ) (T : Tables) (ok : checkCall s k T ≡ accep
         longS = omega (arith, rows-kept, long)
 
         longM : c ≤ rows (T .smallest)
-        longM = omega (arith, level .smallest, long)
+        longM = omega (arith, level-smallest T level, long)
 
         longU : c ≤ rows (T .unions)
-        longU = omega (arith, level .unions, long)
+        longU = omega (arith, level-unions T level, long)
 
         abbrev W : Classed
         W = classedAll k c S (T .smallest) (T .unions)

@@ -1,45 +1,12 @@
 // The maximal-clique run: the listing of a sheet from its maximal cliques, joined where they share k - 1 parts or more.
 ghost use mathlib.Core.Path.{_≡_};
-ghost use lib.ListN.{length};
-ghost use Rattle.answers.specs.Verdict.{accepted, written};
-ghost use Rattle.answers.specs.Answers.{says, sayOf};
-ghost use Rattle.percolation.specs.Percolate.{listingBytes};
-ghost use Rattle.sheet.specs.Sheet.{parts, links};
-ghost use Rattle.runs.specs.Lent.{lent, checkCall};
-ghost use Rattle.runs.specs.OnSheet.{listingOf, maximalsFor, checkRun, ListingMeets};
+ghost use Rattle.runs.specs.Lent.{lent};
+ghost use Rattle.runs.specs.OnSheet.{maximalsFor, ListingMeets};
 use answers::Answer;
 use sheet::Checked;
 
-// The listing of an admitted sheet at t, in tables that it leaves anyhow: the maximal cliques, 15 as soon as there is one more than slots, their classes, 16.
-fn run(
-    sheet: &[u8],
-    p: usize,
-    m: usize,
-    k: usize,
-    t: u16,
-    sets: &mut [u64],
-    entries: &[u32],
-    smallest: &mut [u64],
-    unions: &mut [u64],
-    out: &mut [u8],
-) -> Answer
-    requires { ⌜ (checkCall (now sheet) k (lent (now sets) (now entries) (now smallest) (now unions)) ≡ accepted) × (p ≡ parts (now sheet)) × (m ≡ links (now sheet)) ⌝ }
-    ensures { λ r. ⌜ says r ≡ sayOf (checkRun (maximalsFor (now (sheet .entry)) k t) (now (sheet .entry)) k t (now (entries .entry)) (length (now (out .entry)))) (length (listingOf (now (sheet .entry)) k t)) ⌝ }
-    ensures { λ _. ⌜ now (out .exit) ≡ written (checkRun (maximalsFor (now (sheet .entry)) k t) (now (sheet .entry)) k t (now (entries .entry)) (length (now (out .entry)))) (listingBytes (listingOf (now (sheet .entry)) k t)) (now (out .entry)) ⌝ }
-{
-    let n = runs::heavy(sheet, m, t);
-    let rows = runs::rows_of(sheet, n);
-    let room = slots::room(entries);
-    let count = maximal_search::take_maximal(&rows, sets, room, p, k);
-    if room < count {
-        return Answer::Refused(15, 0);
-    }
-    let classes = overlaps::classes(sets, smallest, unions, k, count);
-    // with no joining entries each row is its own end
-    listings::list_roots(&entries[..0], smallest, unions, classes, out)
-}
-
-// The listing of a sheet at threshold t: 1 to 9, 10, 11, 15, 16. The tables are zeroed whenever it came as far as 15.
+// The listing of a sheet at threshold t: 1 to 11, the maximal cliques, 15 as soon as there is one more than slots, their classes, 16. The tables are zeroed
+// whenever it came as far as 15.
 pub fn listing(
     sheet: &[u8],
     k: usize,
@@ -55,7 +22,17 @@ pub fn listing(
     match runs::admit(sheet, k, sets, entries, smallest, unions) {
         Checked::Faulty(n, a) => Answer::Refused(n, a),
         Checked::Fine(p, m) => {
-            let answer = run(sheet, p, m, k, t, sets, entries, smallest, unions, out);
+            let n = runs::heavy(sheet, m, t);
+            let rows = runs::rows_of(sheet, n);
+            let room = slots::room(entries);
+            let count = maximal_search::take_maximal(&rows, sets, room, p, k);
+            if room < count {
+                runs::clear(sets, entries, smallest, unions);
+                return Answer::Refused(15, 0);
+            }
+            let classes = overlaps::classes(sets, smallest, unions, k, count);
+            // with no joining entries each row is its own end
+            let answer = listings::list_roots(&entries[..0], smallest, unions, classes, out);
             runs::clear(sets, entries, smallest, unions);
             answer
         }

@@ -1,8 +1,3 @@
-pub mod Cliques13
-pub mod MaximalCall
-pub mod MaximalJoined
-pub mod MaximalLevels
-pub mod MaximalTaken
+pub mod Calls
+pub mod Pairs
 pub mod Prefixes
-pub mod Sequential
-pub mod SequentialCall

@@ -1,17 +1,16 @@
--- The meeting weight of two k-cliques of a sheet: what is checked, in order, and what each case of the answer says. Assumes nothing.
+-- The meeting weight of two k-cliques of a sheet: what each case of the answer says, what is checked, in order, and what the call must do. Assumes nothing.
+use mathlib.Core.Path.{_≡_}
 use mathlib.Core.Bool.{Bool, _&&_}
 use mathlib.Core.List.{List}
 use Prim.Native.Nat.{ℕ}
 use lib.Dec.{eqb}
-use lib.ListN.{length}
 use Rattle.answers.specs.Verdict.{Verdict, accepted, refused, _then_, unless}
-use Rattle.sets.specs.Lists.{any, all}
-use Rattle.percolation.specs.Links.{heavy, cliques, slots, maximals}
-use Rattle.percolation.specs.Levels.{Meeting, met, never, levels, meeting}
-use Rattle.percolation.specs.Steps.{enough}
+use Rattle.sets.specs.Lists.{any}
+use Rattle.percolation.specs.Links.{cliques}
+use Rattle.percolation.specs.Levels.{Meeting, met, never, meeting}
 use Rattle.sheet.specs.Sheet.{parts, linksOf}
 use Rattle.slots.specs.Tables.{Tables}
-use Rattle.runs.specs.Lent.{checkCall}
+use Rattle.runs.specs.Lent.{checkCall, left}
 use Rattle.meeting.specs.declared.Met.{Met}
 use Rattle.meeting.specs.declared.Met.the-variants.{Weight, Never, Refused}
 
@@ -45,15 +44,12 @@ unfoldable pub checkPair : List ℕ → ℕ → ℕ → ℕ → Tables → Verdi
 unfolding checkCall isClique unless _then_
 checkPair s k a b T = checkCall s k T then unless (isClique s k a && isClique s k b) 13 0
 
--- then 15, by the sequential run: the slots that all links need
-unfoldable pub checkSequential : List ℕ → ℕ → ℕ → ℕ → Tables → Verdict
-unfolding checkPair enough slots cliques linksOf unless _then_
-checkSequential s k a b T =
-    checkPair s k a b T then unless (enough (length (T .entries)) (slots (parts s) k (cliques (linksOf s) (parts s) k))) 15 0
+-- what is to be done where these let the call pass: 15, where what it counts fits the slots or not, then the meeting weight m
+abbrev pub MeetingRuns : Bool → Meeting → Met → Type 0
+MeetingRuns fits m r = meetSays r ≡ meetSay (unless fits 15 0) m
 
--- and by the maximal-clique run: the maximal cliques at each weight of the sheet
-unfoldable pub checkMaximal : List ℕ → ℕ → ℕ → ℕ → Tables → Verdict
-unfolding checkPair all levels enough maximals heavy linksOf unless _then_
-checkMaximal s k a b T =
-    checkPair s k a b T
-    then unless (all (λ w. enough (length (T .entries)) (length (maximals (heavy w (linksOf s)) (parts s) k))) (levels (linksOf s))) 15 0
+-- what the whole call must do: r is its answer, T are the tables before it and U those after it
+pub record MeetingMeets (s : List ℕ) (k a b : ℕ) (T : Tables) (fits : Bool) (r : Met) (U : Tables) : Type 0 where
+  pub answer : meetSays r ≡ meetSay (checkPair s k a b T then unless fits 15 0) (meetingOf s k a b)
+  -- zeroed whenever it came as far as 15
+  pub tables : U ≡ left (checkPair s k a b T) T

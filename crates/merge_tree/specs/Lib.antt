@@ -1,3 +1,1 @@
-pub mod LevelModel
-pub mod Model
 pub mod OnSheet

@@ -6,20 +6,18 @@ use mathlib.Core.List.{List}
 use Prim.Native.Nat.{ℕ, zero, suc, _+_, _-_, _≤_, _<_, _^_}
 use native.Mathlib.Omega.{arith}
 use Rattle.sets.specs.Lists.{_∈_, keep}
-use Rattle.sets.specs.Sets.{has, union, before, lows, unionOf}
+use Rattle.sets.specs.Sets.{has, union, before, lesser, lows, unionOf}
 use Rattle.sets.specs.Value.{width, rows, row}
 use Rattle.sets.proofs.Tests.{never, same-or-not, lt-or-le}
 use Rattle.sets.proofs.ListLaws.{keep-at, keep-of}
 use Rattle.sets.proofs.Laws.{has-lt, parts-lt, sub-has}
 use Rattle.sets.proofs.LowParts.{lows-sub}
 use Rattle.sets.proofs.Members.{union-part, union-has}
-use Rattle.sets.proofs.Order.{set-order}
+use Rattle.sets.proofs.Order.{set-order, lesser-one, lesser-left, lesser-right}
 use Rattle.sets.proofs.Parts.{same-parts, union-l, union-r, union-cases}
 use Rattle.percolation.specs.Percolate.{overlap, Chain, alone, next, joinedBy, shown}
 use Rattle.percolation.proofs.Chains.{overlap-sym, last-in, chain-trans, joinedBy-chain, chain-joinedBy}
 use Rattle.percolation.proofs.Maximal.{ShowsMaximal}
-use Rattle.slots.specs.Model.{lesser}
-use Rattle.slots.proofs.Values.{lesser-one, lesser-left, lesser-right}
 use Rattle.overlaps.specs.Model.{sweptFrom, Grown, grown, grownFrom, classAt}
 use Rattle.overlaps.proofs.Moves.{Among, Moved, Fits, moved-none, moved-both, moved-from, moved-rows, moved-fits, Parted, sweep-parts, Holding, holding-moved}
 use Rattle.overlaps.proofs.Showing.{chain-keeps, Showing}

@@ -6,10 +6,9 @@ use Prim.Native.Nat.{ℕ, zero, suc, _+_, _-_, _≤_, _<_}
 use native.Mathlib.Omega.{arith}
 use borrow.Author.Tests.{lt-ltb, le-ltb, le-leb, lt-leb}
 use lib.Dec.{leb}
-use Rattle.sets.specs.Sets.{meet, union, size, lows}
+use Rattle.sets.specs.Sets.{meet, union, size, lesser, lows}
 use Rattle.sets.specs.Value.{row, store}
 use Rattle.percolation.specs.Percolate.{overlap}
-use Rattle.slots.specs.Model.{lesser}
 use Rattle.overlaps.specs.Model.{swapped, Swept, swept, sweptFrom, Grown, grown, grownFrom, classAt, Classed, classed, classedFrom, classedAll}
 
 -- ---- what the code does is what the model says

@@ -6,10 +6,9 @@ use mathlib.Core.List.{List, map}
 use Prim.Native.Nat.{ℕ, zero, suc, _-_}
 use lib.Dec.{ltb}
 use Rattle.sets.specs.Lists.{below}
-use Rattle.sets.specs.Sets.{union, lows}
+use Rattle.sets.specs.Sets.{union, lesser, lows}
 use Rattle.sets.specs.Value.{row, store}
 use Rattle.percolation.specs.Percolate.{overlap, Community, shown}
-use Rattle.slots.specs.Model.{lesser}
 
 -- rows i and j change places
 unfoldable pub swapped : List ℕ → ℕ → ℕ → List ℕ

@@ -55,7 +55,7 @@ pub fn class_at(table: &mut [u64], k: usize, n: usize, i: usize) -> Class
     let mut whole = first;
     while f < e {
         let s = sets::at(table, f);
-        small = slots::lesser(small, sets::lows(s, k));
+        small = sets::lesser(small, sets::lows(s, k));
         whole = sets::union(whole, s);
         e = sweep(table, k, s, e, n);
         f += 1;

@@ -232,7 +232,7 @@ module _ (p k n : ℕ) where
 
   -- what every accepted insert keeps, an insert keeps, and a list of inserts
   module _ (P : List Link → Type 0) (step : (L : List Link) (l : Link) → P L → checkInsert p k n L l ≡ accepted → P (L ++ (l ∷ []))) where
-    pub accept-keeps : (L : List Link) (l : Link) → P L → P (accept p k n L l)
+    accept-keeps : (L : List Link) (l : Link) → P L → P (accept p k n L l)
     accept-keeps L l h = go (checkInsert p k n L l) refl
       where
         go : (v : Verdict) → checkInsert p k n L l ≡ v → P (accept p k n L l)
@@ -247,16 +247,10 @@ module _ (p k n : ℕ) where
   legal-step : (L : List Link) (l : Link) → legal p L ≡ true → checkInsert p k n L l ≡ accepted → legal p (L ++ (l ∷ [])) ≡ true
   legal-step L l ok e = legal-more p L l 0 ok (insert-checks L l e)
 
-  pub accept-legal : (L : List Link) (l : Link) → legal p L ≡ true → legal p (accept p k n L l) ≡ true
-  accept-legal L l ok = accept-keeps (λ M. legal p M ≡ true) legal-step L l ok
-
   pub accepted-legal : (L X : List Link) → legal p L ≡ true → legal p (acceptedLinks p k n L X) ≡ true
   accepted-legal L X ok = inserts-keep (λ M. legal p M ≡ true) legal-step L X ok
 
   -- the accepted links have slots in the tables
-  pub accept-fit : (L : List Link) (l : Link) → enough n (slots p k (cliques L p k)) ≡ true → enough n (slots p k (cliques (accept p k n L l) p k)) ≡ true
-  accept-fit L l h = accept-keeps (λ M. enough n (slots p k (cliques M p k)) ≡ true) (λ M m _ e. insert-fits M m e) L l h
-
   pub accepted-fit : (L X : List Link) → enough n (slots p k (cliques L p k)) ≡ true → enough n (slots p k (cliques (acceptedLinks p k n L X) p k)) ≡ true
   accepted-fit L X h = inserts-keep (λ M. enough n (slots p k (cliques M p k)) ≡ true) (λ M l _ e. insert-fits M l e) L X h
 

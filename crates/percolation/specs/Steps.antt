@@ -5,6 +5,7 @@ use Prim.Native.Nat.{ℕ}
 use lib.Dec.{eqb, leb, ltb}
 use Rattle.answers.specs.Verdict.{Verdict, _then_, unless, passes}
 use Rattle.sets.specs.Lists.{all, eachTwo}
+use Rattle.percolation.specs.Ranges.{mostSlots}
 use Rattle.percolation.specs.Links.{Link, joins, linked, cliques, slots}
 
 -- part numbers below p, lower below higher
@@ -33,9 +34,9 @@ legal p L =
     all (λ l. goodParts p l && leb 1 (l .weight)) L
     && (eachTwo (λ l m. leb (m .weight) (l .weight)) L && eachTwo (λ l m. not (joins (l .low) (l .high) m)) L)
 
--- c cliques have slots in tables of n: no more than n, and no more than 16,777,216
+-- c cliques have slots in tables of n: no more than n, and no more than mostSlots
 unfoldable pub enough : ℕ → ℕ → Bool
-enough n c = leb c n && leb c 16777216
+enough n c = leb c n && leb c mostSlots
 
 -- what an insert of l gets with tables of n slots when L are the accepted links: 6 to 9, then 15, which counts the links with the new one
 unfoldable pub checkInsert : ℕ → ℕ → ℕ → List Link → Link → Verdict

@@ -1,14 +1,26 @@
 -- What a call on a sheet has where the checks before 15 let it pass, and where they stop it. Assumes nothing.
-use mathlib.Core.Path.{_≡_, _∙_}
+use mathlib.Core.Path.{_≡_, sym, ap, _∙_}
 use mathlib.Core.Bool.{true, false}
 use mathlib.Core.List.{List}
 use Prim.Native.Nat.{ℕ}
 use Rattle.answers.specs.Verdict.{Verdict, accepted, refused, _then_, unless}
 use Rattle.answers.proofs.Laws.{stop, go, last-stop, last-go, then-left, then-right, then-stop, then-go, unless-passed}
 use Rattle.percolation.specs.Ranges.{goodK}
-use Rattle.sheet.specs.Sheet.{checkSheet}
+use Rattle.sheet.specs.Answers.{sheetSays, sheetSay}
+use Rattle.sheet.specs.Sheet.{parts, links, checkSheet}
+use Rattle.sheet.specs.declared.Checked.{Checked}
+use Rattle.sheet.specs.declared.Checked.the-variants.{Fine, Faulty}
+use Rattle.sheet.proofs.Said.{said-faulty, said-holds}
 use Rattle.slots.specs.Tables.{Tables}
 use Rattle.runs.specs.Lent.{level, checkCall}
+
+-- what checks with the verdict v said of the sheet s
+module _ (v : Verdict) (s : List ℕ) (x : Checked) (said : sheetSays x ≡ sheetSay v s) where
+  pub told-faulty : (n a : ℕ) → x ≡ Faulty n a → v ≡ refused n a
+  told-faulty n a e = said-faulty v s n a (sym (ap sheetSays e) ∙ said)
+
+  pub told-fine : (p m : ℕ) → x ≡ Fine p m → (v ≡ accepted) × (p ≡ parts s) × (m ≡ links s)
+  told-fine p m e = said-holds v s p m (sym (ap sheetSays e) ∙ said)
 
 module _ (s : List ℕ) (k : ℕ) (T : Tables) where
   -- 10 and 11

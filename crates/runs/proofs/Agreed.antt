@@ -5,16 +5,16 @@ use mathlib.Core.List.{List}
 use Prim.Native.Nat.{ℕ}
 use Rattle.answers.specs.Answers.{counts, says}
 use Rattle.answers.specs.declared.Answer.{Answer}
-use Rattle.answers.proofs.Laws.{said-count, written-accepted}
 use Rattle.slots.specs.Tables.{Tables}
 use Rattle.listings.specs.Listing.{Gives}
+use Rattle.listings.proofs.Outputs.{writes-gives}
 use Rattle.runs.specs.OnSheet.{listingOf, ListingMeets}
 
 -- a listing that is not refused
 pub not-refused : (c : ℕ) (s : List ℕ) (k t : ℕ) (T : Tables) (old : List ℕ) (r : Answer) (U : Tables) (out : List ℕ) → ListingMeets c s k t T old r U out
     → (n : ℕ) → says r ≡ counts n → Gives (listingOf s k t) old n out
 not-refused c s k t T old r U out m n e =
-    let f = said-count _ _ n (sym e ∙ m .answer) in record { count = f .1; bytes = m .bytes ∙ written-accepted _ _ old (f .0) }
+    writes-gives _ (listingOf s k t) old r out (m .writes) n e
 
 -- by either run, with other tables and other space: the same count, and with the same output before it the same output
 pub runs-agree : (c d : ℕ) (s : List ℕ) (k t : ℕ) (T Z : Tables) (old : List ℕ) (a b : Answer) (U W : Tables) (x y : List ℕ)

@@ -1,88 +1,106 @@
--- A listing call on a sheet by its parts: 15 and the room, refused before 15, and let through. Assumes nothing.
-use mathlib.Core.Path.{_≡_, sym, ap, ap₂, _∙_}
-use mathlib.Core.Bool.{true, false}
+-- A call on a sheet with an output by its parts: 15 and the room, refused before 15, and let through. Assumes nothing.
+use mathlib.Core.Path.{_≡_, refl, sym, ap, ap₂, _∙_, subst}
+use mathlib.Core.Bool.{Bool, true, false}
 use mathlib.Core.List.{List}
-use Prim.Native.Nat.{ℕ, _≤_, _<_}
+use Prim.Native.Nat.{ℕ, _≤_, _<_, min}
 use native.Mathlib.Omega.{arith}
 use lib.Dec.{leb}
-use lib.ListN.{length}
+use lib.ListN.{length, take}
 use borrow.Author.Tests.{leb-true, le-leb}
-use Rattle.answers.specs.Verdict.{Verdict, accepted, refused, written}
-use Rattle.answers.specs.Answers.{Said, refuses, says, sayOf}
+use Rattle.answers.specs.Verdict.{Verdict, accepted, refused, _then_}
+use Rattle.answers.specs.Answers.{refuses, says}
 use Rattle.answers.specs.declared.Answer.{Answer}
-use Rattle.answers.proofs.Laws.{stop, go, then-go, then-stop, say-refused, written-refused}
-use Rattle.sets.proofs.Tests.{not-so, and-intro, and-left, and-right}
+use Rattle.answers.proofs.Laws.{stop, go, then-go, then-stop}
+use Rattle.sets.specs.Value.{noRows}
+use Rattle.sets.proofs.Tests.{iff}
 use Rattle.percolation.specs.Percolate.{Community, listingBytes}
+use Rattle.percolation.specs.Links.{Link, cliques, slots}
 use Rattle.percolation.specs.Steps.{enough}
 use Rattle.slots.specs.Tables.{Tables, room}
-use Rattle.slots.proofs.Lengths.{room-within}
-use Rattle.listings.specs.Listing.{checkOut}
-use Rattle.runs.specs.Lent.{checkCall, cleared}
-use Rattle.runs.specs.OnSheet.{listingOf, checkRun, checkListing, ListingMeets}
+use Rattle.slots.proofs.Lengths.{room-within, enough-is}
+use Rattle.search.specs.Model.{cap, neededBy}
+use Rattle.search.proofs.SlotTally.{slots-is}
+use Rattle.sheet.specs.Answers.{sheetSays, sheetSay}
+use Rattle.sheet.specs.Sheet.{parts, links, linksOf, checkSheet}
+use Rattle.sheet.specs.declared.Checked.{Checked}
+use Rattle.sheet.specs.declared.Checked.the-variants.{Fine, Faulty}
+use Rattle.listings.specs.Listing.{checkOut, Writes, WritesListing}
+use Rattle.listings.proofs.Outputs.{writes-refused, writes-same}
+use Rattle.runs.specs.Lent.{cleared}
+use Rattle.runs.specs.Model.{rowsWith}
+use Rattle.runs.specs.OnSheet.{checkRun, RunMeets, CallMeets, slotsOf}
+use Rattle.runs.proofs.Admitted.{told-faulty, told-fine}
+use Rattle.runs.proofs.InSheet.{first-all, parts-width, first-legal, first-near}
 use Rattle.runs.proofs.Left.{left-passed, left-refused, cleared-kept}
 
--- ---- what is enough is what there is room for
+-- ---- 15
 
-pub enough-room : (es : List ℕ) (c : ℕ) → c ≤ room es → enough (length es) c ≡ true
-unfolding enough
-enough-room es c h =
-    and-intro (leb c (length es)) (leb c 16777216) (le-leb c (length es) (omega (arith, room-within es .0))) (le-leb c 16777216 (omega (arith, room-within es .1)))
+-- a count that stops at the cap decides as the whole count does
+capped : (es : List ℕ) (x : ℕ) → leb (min x cap) (room es) ≡ leb x (room es)
+capped es x =
+    iff (leb (min x cap) (room es)) (leb x (room es))
+    (λ t. le-leb x (room es) (omega (arith, leb-true (min x cap) (room es) t, room-within es .1)))
+    (λ t. le-leb (min x cap) (room es) (omega (arith, leb-true x (room es) t)))
 
-pub enough-short : (es : List ℕ) (c : ℕ) → room es < c → enough (length es) c ≡ false
-unfolding enough room
-enough-short es c h =
-    not-so (enough (length es) c)
-    (λ e.
-    omega (arith, leb-true c (length es) (and-left (leb c (length es)) (leb c 16777216) e), leb-true c 16777216 (and-right (leb c (length es)) (leb c 16777216) e), h))
+-- the slots that the first n links of a checked sheet need, by their rows of neighbours R
+pub slots-first : (s : List ℕ) → checkSheet s ≡ accepted → (k : ℕ) → 2 ≤ k → (es : List ℕ) (n : ℕ) (R : List ℕ) → R ≡ rowsWith noRows (take n (linksOf s))
+    → (q c y : ℕ) → q ≡ parts s → c ≡ min (neededBy R q k) cap → y ≡ room es
+    → leb c y ≡ enough (length es) (slots (parts s) k (cliques (take n (linksOf s)) (parts s) k))
+slots-first s e k two es n R rows q c y same count space =
+    ap₂ leb (count ∙ ap (λ (x : ℕ). min (neededBy R x k) cap) same ∙ ap (λ (x : ℕ). min x cap) (sym need)) space
+    ∙ capped es (slots (parts s) k (cliques N (parts s) k)) ∙ sym (enough-is es (slots (parts s) k (cliques N (parts s) k)))
+  where
+    N : List Link
+    N = take n (linksOf s)
 
-module _ (c : ℕ) (s : List ℕ) (k t : ℕ) where
-  -- ---- from 15 on, with the output old before
+    need : slots (parts s) k (cliques (take n (linksOf s)) (parts s) k) ≡ neededBy R (parts s) k
+    need =
+        slots-is (parts s) (take n (linksOf s)) R (first-legal s e n (take n (linksOf s)) refl) (parts-width s e) (first-near s e n (take n (linksOf s)) refl R rows) k
+        (omega (arith, two))
 
-  module _ (es old : List ℕ) where
-    abbrev run : Verdict
-    run = checkRun c s k t es (length old)
+-- the first m links are all
+pub slots-all : (s : List ℕ) (k : ℕ) (es : List ℕ) (m : ℕ) → m ≡ links s → (f : Bool)
+    → f ≡ enough (length es) (slots (parts s) k (cliques (take m (linksOf s)) (parts s) k)) → f ≡ enough (length es) (slotsOf s k)
+slots-all s k es m all f e = e ∙ ap (λ (L : List Link). enough (length es) (slots (parts s) k (cliques L (parts s) k))) (first-all s m all)
 
-    run-short : room es < c → run ≡ refused 15 0
-    unfolding checkRun
-    run-short h = stop (enough (length es) c) 15 0 _ (enough-short es c h)
+-- ---- from 15 on
 
-    pub short-run : room es < c → (refuses 15 0 ≡ sayOf run (length (listingOf s k t))) × (old ≡ written run (listingBytes (listingOf s k t)) old)
-    short-run h = (sym (say-refused _ _ _ _ (run-short h)), sym (written-refused _ _ _ _ _ (run-short h)))
+module _ (fits : Bool) (n : ℕ) (B old : List ℕ) (r : Answer) where
+  pub run-short : fits ≡ false → says r ≡ refuses 15 0 → RunMeets fits n B old r old
+  unfolding checkRun
+  run-short e x = writes-refused (checkRun fits B (length old)) n B old r 15 0 (stop fits 15 0 _ e) x
 
-    -- where there is room, what lists C, which is the listing, is right
-    pub whole-run : c ≤ room es → (C : List Community) → C ≡ listingOf s k t → (a : Said) (out : List ℕ) → a ≡ sayOf (checkOut C (length old)) (length C)
-        → out ≡ written (checkOut C (length old)) (listingBytes C) old
-        → (a ≡ sayOf run (length (listingOf s k t))) × (out ≡ written run (listingBytes (listingOf s k t)) old)
-    unfolding checkRun
-    whole-run h C e a out x y = (
-      x ∙ ap₂ (λ (v : Verdict) (D : List Community). sayOf v (length D)) (sym passes) e,
-      y ∙ ap₂ (λ (v : Verdict) (D : List Community). written v (listingBytes D) old) (sym passes) e,
-    )
-      where
-        passes : run ≡ checkOut C (length old)
-        passes = go (enough (length es) c) 15 0 _ (enough-room es c h) ∙ ap (λ (D : List Community). checkOut D (length old)) (sym e)
+  pub run-whole : (out : List ℕ) → fits ≡ true → Writes (checkOut B (length old)) n B old r out → RunMeets fits n B old r out
+  unfolding checkRun
+  run-whole out e w = writes-same (checkRun fits B (length old)) n B old r out _ (go fits 15 0 _ e) w
 
-  -- ---- the whole call
+-- the listing of what was found, which is the one that is asked for
+pub run-listing : (fits : Bool) (D C : List Community) (old : List ℕ) (r : Answer) (out : List ℕ) → fits ≡ true → C ≡ D → WritesListing C old r out
+    → RunMeets fits (length D) (listingBytes D) old r out
+run-listing fits D C old r out e f w =
+    run-whole fits (length D) (listingBytes D) old r out e (subst (λ (X : List Community). WritesListing X old r out) f w)
 
-  module _ (T : Tables) (old : List ℕ) where
-    -- refused before 15: nothing is written
-    pub call-stopped : (n a : ℕ) → checkCall s k T ≡ refused n a → (r : Answer) → says r ≡ refuses n a → ListingMeets c s k t T old r T old
-    unfolding checkListing
-    call-stopped n a e r x =
-        let f = then-stop (checkCall s k T) (checkRun c s k t (T .entries) (length old)) n a e in
-        record { answer = x ∙ sym (say-refused _ _ _ _ f); bytes = sym (written-refused _ _ _ _ _ f); tables = sym (left-refused n a (checkCall s k T) T e) }
+-- ---- the whole call
 
-    -- let through: what the run gives, and the tables zeroed
-    pub call-ran : checkCall s k T ≡ accepted → (r : Answer) (out : List ℕ) (U W : Tables)
-        → says r ≡ sayOf (checkRun c s k t (T .entries) (length old)) (length (listingOf s k t))
-        → out ≡ written (checkRun c s k t (T .entries) (length old)) (listingBytes (listingOf s k t)) old
-        → W ≡ cleared U → length (U .sets) ≡ length (T .sets) → length (U .entries) ≡ length (T .entries) → length (U .smallest) ≡ length (T .smallest)
-        → length (U .unions) ≡ length (T .unions) → ListingMeets c s k t T old r W out
-    unfolding checkListing
-    call-ran e r out U W x y w a b m u =
-        let f = then-go (checkCall s k T) (checkRun c s k t (T .entries) (length old)) e in
-        record {
-          answer = x ∙ ap (λ (v : Verdict). sayOf v (length (listingOf s k t))) (sym f);
-          bytes = y ∙ ap (λ (v : Verdict). written v (listingBytes (listingOf s k t)) old) (sym f);
-          tables = w ∙ cleared-kept T U a b m u ∙ sym (left-passed (checkCall s k T) T e);
-        }
+-- where x is what the checks before 15 said of the sheet s
+module _ (before : Verdict) (fits : Bool) (n : ℕ) (B : List ℕ) (T : Tables) (old : List ℕ) (r : Answer) (s : List ℕ) (x : Checked)
+    (said : sheetSays x ≡ sheetSay before s) where
+  -- refused before 15: nothing is written
+  pub call-stopped : (m a : ℕ) → x ≡ Faulty m a → says r ≡ refuses m a → CallMeets before fits n B T old r T old
+  call-stopped m a f y =
+      let e = told-faulty before s x said m a f in
+      record {
+        writes = writes-refused (before then checkRun fits B (length old)) n B old r m a (then-stop before (checkRun fits B (length old)) m a e) y;
+        tables = sym (left-refused m a before T e);
+      }
+
+  -- let through: what the run gives, and the tables zeroed
+  pub call-ran : (p m : ℕ) → x ≡ Fine p m → (out : List ℕ) (U W : Tables) → RunMeets fits n B old r out → W ≡ cleared U
+      → length (U .sets) ≡ length (T .sets) → length (U .entries) ≡ length (T .entries) → length (U .smallest) ≡ length (T .smallest)
+      → length (U .unions) ≡ length (T .unions) → CallMeets before fits n B T old r W out
+  call-ran p m f out U W y w a b c d =
+      let e = told-fine before s x said p m f .0 in
+      record {
+        writes = writes-same (before then checkRun fits B (length old)) n B old r out _ (then-go before (checkRun fits B (length old)) e) y;
+        tables = w ∙ cleared-kept T U a b c d ∙ sym (left-passed before T e);
+      }

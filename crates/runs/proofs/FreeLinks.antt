@@ -2,24 +2,25 @@
 use mathlib.Core.Path.{_≡_, refl, subst⁻¹}
 use mathlib.Core.Bool.{true}
 use mathlib.Core.List.{List, [], _∷_, _++_}
-use Prim.Native.Nat.{ℕ, _≤_, _<_}
+use Prim.Native.Nat.{ℕ, _≤_}
 use native.Mathlib.Omega.{arith}
 use lib.ListN.{take, drop}
 use lib.Seq.{append-snoc}
-use Rattle.sets.specs.Value.{width, noRows, row}
+use Rattle.sets.specs.Value.{width, noRows}
 use Rattle.percolation.specs.Links.{Link, cliques, slots}
 use Rattle.percolation.specs.Steps.{legal}
 use Rattle.percolation.proofs.Accepted.{check-new, legal-init}
 use Rattle.checks.specs.Model.{marked}
 use Rattle.checks.specs.Neighbours.{Neighbours}
 use Rattle.checks.proofs.Near.{near-none}
-use Rattle.slots.specs.Tables.{Tables, room, rootOf}
-use Rattle.slots.specs.Shows.{Shows}
+use Rattle.slots.specs.Tables.{Tables, room}
+use Rattle.slots_theory.specs.Shows.{Shows}
 use Rattle.slots.proofs.Lengths.{same-room}
-use Rattle.slots.proofs.Free.{Stays, stays-root, stays-none, stays-both, Paired, none-paired}
-use Rattle.search.specs.Model.{newCliques, tookAll}
-use Rattle.search.proofs.AllTaken.{all-kept, all-fits}
-use Rattle.search.proofs.FreeAll.{all-stays, insert-paired}
+use Rattle.slots_theory.proofs.Free.{Stays, stays-none, stays-both, Paired, none-paired}
+use Rattle.search.specs.Model.{newCliques}
+use Rattle.clique_taking.specs.Model.{tookAll}
+use Rattle.clique_taking.proofs.AllTaken.{all-kept, all-fits}
+use Rattle.clique_taking.proofs.FreeAll.{all-stays, insert-paired}
 use Rattle.runs.specs.Lent.{level, cleared}
 use Rattle.runs.specs.Model.{tookLinks}
 use Rattle.runs.proofs.Left.{cleared-room, cleared-shown}
@@ -63,24 +64,6 @@ links-paired p k L (l ∷ M) R T wide two ok n h fit e =
     one : slots p k (cliques (L ++ (l ∷ [])) p k) ≤ room (T .entries)
     one = omega (arith, slots-front p k (L ++ (l ∷ [])) M, all)
 
--- ---- under the hypotheses of links-shown
-
-module _ (p k : ℕ) (L M : List Link) (R : List ℕ) (T : Tables) (wide : p ≤ width) (two : 2 ≤ k) (ok : legal p (L ++ M) ≡ true) (n : Neighbours L R)
-    (h : Shows p k (cliques L p k) T) (fit : slots p k (cliques (L ++ M) p k) ≤ room (T .entries)) where
-  pub links-sets-kept : (i : ℕ) → i < T .used → row (tookLinks k R T M .sets) i ≡ row (T .sets) i
-  links-sets-kept = links-stays k R T M (h .fits) .sets
-
-  pub links-root-stays : (i : ℕ) → i < T .used → rootOf (tookLinks k R T M .entries) i ≡ i → rootOf (T .entries) i ≡ i
-  links-root-stays = stays-root T (tookLinks k R T M) (links-stays k R T M (h .fits))
-
-  pub links-ends-merge : (i j : ℕ) → i < T .used → j < T .used → rootOf (T .entries) i ≡ rootOf (T .entries) j
-      → rootOf (tookLinks k R T M .entries) i ≡ rootOf (tookLinks k R T M .entries) j
-  links-ends-merge = links-stays k R T M (h .fits) .ends
-
-  pub links-free-kept : (i : ℕ) → i < T .used → (rootOf (T .entries) i ≡ i → ⊥)
-      → (row (tookLinks k R T M .smallest) i ≡ row (T .smallest) i) × (row (tookLinks k R T M .unions) i ≡ row (T .unions) i)
-  links-free-kept i l f = let s = links-stays k R T M (h .fits) in (s .smallest i l f, s .unions i l f)
-
 -- ---- the links below j, where those below i are in
 
 module _ (p : ℕ) (L : List Link) (i j : ℕ) (wide : p ≤ width) (ok : legal p L ≡ true) (le : i ≤ j) (R : List ℕ) (n : Neighbours (take i L) R)
@@ -90,20 +73,6 @@ module _ (p : ℕ) (L : List Link) (i j : ℕ) (wide : p ≤ width) (ok : legal 
 
   pub further-stays : Stays T (tookLinks k R T (drop i (take j L)))
   further-stays = links-stays k R T M (h .fits)
-
-  pub further-sets-kept : (x : ℕ) → x < T .used → row (tookLinks k R T (drop i (take j L)) .sets) x ≡ row (T .sets) x
-  further-sets-kept = further-stays .sets
-
-  pub further-root-stays : (x : ℕ) → x < T .used → rootOf (tookLinks k R T (drop i (take j L)) .entries) x ≡ x → rootOf (T .entries) x ≡ x
-  further-root-stays = stays-root T (tookLinks k R T M) further-stays
-
-  pub further-ends-merge : (x y : ℕ) → x < T .used → y < T .used → rootOf (T .entries) x ≡ rootOf (T .entries) y
-      → rootOf (tookLinks k R T (drop i (take j L)) .entries) x ≡ rootOf (tookLinks k R T (drop i (take j L)) .entries) y
-  further-ends-merge = further-stays .ends
-
-  pub further-free-kept : (x : ℕ) → x < T .used → (rootOf (T .entries) x ≡ x → ⊥)
-      → (row (tookLinks k R T (drop i (take j L)) .smallest) x ≡ row (T .smallest) x) × (row (tookLinks k R T (drop i (take j L)) .unions) x ≡ row (T .unions) x)
-  further-free-kept x l f = (further-stays .smallest x l f, further-stays .unions x l f)
 
   pub further-paired : Paired T → Paired (tookLinks k R T (drop i (take j L)))
   further-paired =

@@ -5,4 +5,5 @@ pub mod Falling
 pub mod FreeLinks
 pub mod InSheet
 pub mod Left
+pub mod LinkList
 pub mod Ran

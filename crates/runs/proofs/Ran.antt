@@ -15,11 +15,12 @@ use Rattle.checks.specs.Model.{marked}
 use Rattle.checks.specs.Neighbours.{Neighbours}
 use Rattle.checks.proofs.Near.{near-none, near-more}
 use Rattle.slots.specs.Tables.{Tables, room}
-use Rattle.slots.specs.Shows.{Shows}
+use Rattle.slots_theory.specs.Shows.{Shows}
 use Rattle.slots.proofs.Lengths.{Kept, kept-none, kept-both, same-room}
-use Rattle.search.specs.Model.{newCliques, tookAll}
-use Rattle.search.proofs.AllTaken.{all-kept, slots-mono}
-use Rattle.search.proofs.Inserted.{insert-shown}
+use Rattle.search.specs.Model.{newCliques}
+use Rattle.clique_taking.specs.Model.{tookAll}
+use Rattle.clique_taking.proofs.AllTaken.{all-kept, slots-mono}
+use Rattle.clique_taking.proofs.Inserted.{insert-shown}
 use Rattle.runs.specs.Lent.{level, cleared}
 use Rattle.runs.specs.Model.{rowsWith, tookLinks}
 use Rattle.runs.proofs.Left.{cleared-room, cleared-shown}

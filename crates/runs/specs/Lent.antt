@@ -2,10 +2,9 @@
 use mathlib.Core.Bool.{Bool, _&&_}
 use mathlib.Core.List.{List}
 use Prim.Native.Nat.{ℕ}
-use lib.Dec.{eqb}
 use lib.ListN.{length, replicate}
 use Rattle.answers.specs.Verdict.{Verdict, accepted, refused, _then_, unless}
-use Rattle.sets.specs.Value.{rows}
+use Rattle.sets.specs.Value.{sized}
 use Rattle.percolation.specs.Ranges.{goodK}
 use Rattle.sheet.specs.Sheet.{checkSheet}
 use Rattle.slots.specs.Tables.{Tables, tables}
@@ -14,10 +13,10 @@ use Rattle.slots.specs.Tables.{Tables, tables}
 abbrev pub lent : List ℕ → List ℕ → List ℕ → List ℕ → Tables
 lent s e m u = tables s e m u 0
 
--- tables of one length
+-- tables of as many sets as there are joining entries, and no word more
 unfoldable pub level : Tables → Bool
-unfolding rows
-level T = eqb (rows (T .sets)) (length (T .entries)) && (eqb (rows (T .smallest)) (length (T .entries)) && eqb (rows (T .unions)) (length (T .entries)))
+unfolding sized
+level T = sized (T .sets) (length (T .entries)) && (sized (T .smallest) (length (T .entries)) && sized (T .unions) (length (T .entries)))
 
 -- the checks of a call on a sheet before 15, or 13: 1 to 9, then 10 and 11
 unfoldable pub checkCall : List ℕ → ℕ → Tables → Verdict

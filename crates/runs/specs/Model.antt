@@ -4,7 +4,8 @@ use Prim.Native.Nat.{ℕ}
 use Rattle.percolation.specs.Links.{Link}
 use Rattle.checks.specs.Model.{marked}
 use Rattle.slots.specs.Tables.{Tables}
-use Rattle.search.specs.Model.{newCliques, tookAll}
+use Rattle.search.specs.Model.{newCliques}
+use Rattle.clique_taking.specs.Model.{tookAll}
 
 -- the rows with these links more
 unfoldable pub rowsWith : List ℕ → List Link → List ℕ

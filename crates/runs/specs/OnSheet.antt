@@ -1,18 +1,37 @@
--- The listing of a sheet at a threshold by either run: what it needs, and its checks in order. Assumes nothing.
+-- A call on a sheet with an output: its checks in order and what it must do; the listing at a threshold by either run. Assumes nothing.
 use mathlib.Core.Path.{_≡_}
+use mathlib.Core.Bool.{Bool}
 use mathlib.Core.List.{List}
 use Prim.Native.Nat.{ℕ}
 use lib.ListN.{length}
-use Rattle.answers.specs.Verdict.{Verdict, _then_, unless, written}
-use Rattle.answers.specs.Answers.{says, sayOf}
+use Rattle.answers.specs.Verdict.{Verdict, _then_, unless}
 use Rattle.answers.specs.declared.Answer.{Answer}
 use Rattle.percolation.specs.Percolate.{Community, listingBytes}
-use Rattle.percolation.specs.Links.{heavy, family, slots, listing, maximals}
+use Rattle.percolation.specs.Links.{heavy, cliques, family, slots, listing, maximals}
 use Rattle.percolation.specs.Steps.{enough}
 use Rattle.sheet.specs.Sheet.{parts, linksOf}
 use Rattle.slots.specs.Tables.{Tables}
-use Rattle.listings.specs.Listing.{checkOut}
+use Rattle.listings.specs.Listing.{checkOut, Writes}
 use Rattle.runs.specs.Lent.{checkCall, left}
+
+-- ---- any such call: n is what its answer counts, B what it writes, old the output before it and out that after it
+
+-- from 15 on: what 15 counts fits the slots or not, then 16 for an output of m bytes
+unfoldable pub checkRun : Bool → List ℕ → ℕ → Verdict
+unfolding checkOut unless _then_
+checkRun fits B m = unless fits 15 0 then checkOut B m
+
+-- what is to be done where the checks before 15 let the call pass
+abbrev pub RunMeets : Bool → ℕ → List ℕ → List ℕ → Answer → List ℕ → Type 0
+RunMeets fits n B old r out = Writes (checkRun fits B (length old)) n B old r out
+
+-- what the whole call must do, with the checks before 15: r is its answer, T are the tables before it and U those after it
+pub record CallMeets (before : Verdict) (fits : Bool) (n : ℕ) (B : List ℕ) (T : Tables) (old : List ℕ) (r : Answer) (U : Tables) (out : List ℕ) : Type 0 where
+  pub writes : Writes (before then checkRun fits B (length old)) n B old r out
+  -- zeroed whenever it came as far as 15
+  pub tables : U ≡ left before T
+
+-- ---- the listing
 
 -- the listing of a sheet
 unfoldable pub listingOf : List ℕ → ℕ → ℕ → List Community
@@ -28,19 +47,11 @@ unfoldable pub maximalsFor : List ℕ → ℕ → ℕ → ℕ
 unfolding maximals heavy linksOf
 maximalsFor s k t = length (maximals (heavy t (linksOf s)) (parts s) k)
 
--- 15: c cliques and the joining entries es; then 16 for an output of n bytes
-unfoldable pub checkRun : ℕ → List ℕ → ℕ → ℕ → List ℕ → ℕ → Verdict
-unfolding enough checkOut listingOf unless _then_
-checkRun c s k t es n = unless (enough (length es) c) 15 0 then checkOut (listingOf s k t) n
+-- and for all links, by the sequential run
+abbrev pub slotsOf : List ℕ → ℕ → ℕ
+slotsOf s k = slots (parts s) k (cliques (linksOf s) (parts s) k)
 
--- the whole call: 1 to 11, 15, 16
-unfoldable pub checkListing : ℕ → List ℕ → ℕ → ℕ → Tables → ℕ → Verdict
-unfolding checkCall checkRun _then_
-checkListing c s k t T n = checkCall s k T then checkRun c s k t (T .entries) n
-
--- what the call must do, where 15 counts c cliques: r is its answer, T are the tables and old the output before it, U and out those after it
-pub record ListingMeets (c : ℕ) (s : List ℕ) (k t : ℕ) (T : Tables) (old : List ℕ) (r : Answer) (U : Tables) (out : List ℕ) : Type 0 where
-  pub answer : says r ≡ sayOf (checkListing c s k t T (length old)) (length (listingOf s k t))
-  pub bytes : out ≡ written (checkListing c s k t T (length old)) (listingBytes (listingOf s k t)) old
-  -- zeroed whenever it came as far as 15
-  pub tables : U ≡ left (checkCall s k T) T
+-- what the call must do, where 15 counts c cliques
+abbrev pub ListingMeets : ℕ → List ℕ → ℕ → ℕ → Tables → List ℕ → Answer → Tables → List ℕ → Type 0
+ListingMeets c s k t T old r U out =
+    CallMeets (checkCall s k T) (enough (length (T .entries)) c) (length (listingOf s k t)) (listingBytes (listingOf s k t)) T old r U out

@@ -1,25 +1,28 @@
 // What the calls on a sheet share: the checks before 15, the tables zeroed, and the links of a checked sheet as rows of neighbours and in the tables.
 ghost use mathlib.Core.Path.{_≡_};
 ghost use Prim.Native.Nat.{_<_, _≤_};
-ghost use lib.ListN.{take, drop};
+ghost use lib.ListN.{length, take, drop};
 ghost use Rattle.answers.specs.Verdict.{accepted};
 ghost use Rattle.sets.specs.Value.{width, noRows};
 ghost use Rattle.checks.specs.Model.{marked};
-ghost use Rattle.search.specs.Model.{newCliques, tookAll};
-ghost use Rattle.percolation.specs.Links.{heavy};
+ghost use Rattle.search.specs.Model.{newCliques};
+ghost use Rattle.clique_taking.specs.Model.{tookAll};
+ghost use Rattle.percolation.specs.Links.{cliques, heavy, slots};
+ghost use Rattle.percolation.specs.Steps.{enough};
 ghost use Rattle.slots.specs.Tables.{tables, room};
-ghost use Rattle.sheet.specs.Sheet.{links, linksOf, checkSheet};
+ghost use Rattle.sheet.specs.Sheet.{parts, links, linksOf, checkSheet};
 ghost use Rattle.sheet.specs.Answers.{sheetSays, sheetSay};
 ghost use Rattle.runs.specs.Lent.{lent, level, checkCall, cleared};
 ghost use Rattle.runs.specs.Model.{rowsWith, tookLinks};
+use sets::Rows;
 use sheet::Checked;
 
-// Whether the four tables are of one length.
+// Whether the tables of sets have as many sets as there are joining entries, and no word more.
 pub fn level(sets: &[u64], entries: &[u32], smallest: &[u64], unions: &[u64]) -> bool
     ensures { λ r. ⌜ r ≡ level (lent (now (sets .entry)) (now (entries .entry)) (now (smallest .entry)) (now (unions .entry))) ⌝ }
 {
     let n = entries.len();
-    sets::rows(sets) == n && (sets::rows(smallest) == n && sets::rows(unions) == n)
+    sets::sized(sets, n) && (sets::sized(smallest, n) && sets::sized(unions, n))
 }
 
 // The checks of a call on a sheet before 15, or 13: 1 to 9, then 10 and 11. Where they pass, the sheet's part count and link count.
@@ -52,7 +55,7 @@ pub fn clear(sets: &mut [u64], entries: &mut [u32], smallest: &mut [u64], unions
     ensures { λ _. ⌜ lent (now (sets .exit)) (now (entries .exit)) (now (smallest .exit)) (now (unions .exit)) ≡ cleared (lent (now (sets .entry)) (now (entries .entry)) (now (smallest .entry)) (now (unions .entry))) ⌝ }
 {
     sets::clear(sets);
-    slots::clear_entries(entries);
+    joining::clear_entries(entries);
     sets::clear(smallest);
     sets::clear(unions);
 }
@@ -75,7 +78,7 @@ pub fn heavy(sheet: &[u8], m: usize, t: u16) -> usize
 }
 
 // The rows of neighbours of the first n links of a checked sheet. For sister crates: checks 1 to 9 show what is required.
-pub fn rows_of(sheet: &[u8], n: usize) -> [u64; 64]
+pub fn rows_of(sheet: &[u8], n: usize) -> Rows
     requires { ⌜ (checkSheet (now sheet) ≡ accepted) × (n ≤ links (now sheet)) ⌝ }
     ensures { λ r. ⌜ r ≡ rowsWith noRows (take n (linksOf (now (sheet .entry)))) ⌝ }
 {
@@ -87,6 +90,18 @@ pub fn rows_of(sheet: &[u8], n: usize) -> [u64; 64]
         j += 1;
     }
     rows
+}
+
+// Whether there are slots enough for the first n links of a checked sheet: 15, by their rows of neighbours alone, before a table is written. For sister
+// crates: checks 1 to 9 show what is required of the sheet and its part count p, 10 of k.
+pub fn has_slots(sheet: &[u8], n: usize, p: usize, k: usize, entries: &[u32]) -> bool
+    requires { ⌜ (checkSheet (now sheet) ≡ accepted) × (n ≤ links (now sheet)) × (p ≡ parts (now sheet)) × (2 ≤ k) ⌝ }
+    ensures { λ r. ⌜ r ≡ enough (length (now (entries .entry))) (slots (parts (now (sheet .entry))) k (cliques (take n (linksOf (now (sheet .entry)))) (parts (now (sheet .entry))) k)) ⌝ }
+{
+    let rows = rows_of(sheet, n);
+    let need = search::needed(&rows, p, k);
+    let room = slots::room(entries);
+    need <= room
 }
 
 // One link more: its new k-cliques into the tables, then its ends into the rows. Gives how many slots are used then. For sister crates: check 6 shows
@@ -106,7 +121,7 @@ pub fn take_link(
     ensures { λ r. ⌜ tables (now (sets .exit)) (now (entries .exit)) (now (smallest .exit)) (now (unions .exit)) r ≡ tookAll (tables (now (sets .entry)) (now (entries .entry)) (now (smallest .entry)) (now (unions .entry)) used) (newCliques (now (rows .entry)) k low high) ⌝ }
     ensures { λ r. ⌜ (now (rows .exit) ≡ marked (now (rows .entry)) low high) × (r ≤ room (now (entries .exit))) ⌝ }
 {
-    let n = search::take_cliques(rows, sets, entries, smallest, unions, used, k, low, high);
+    let n = clique_taking::take_cliques(rows, sets, entries, smallest, unions, used, k, low, high);
     checks::add_link(rows, low, high);
     n
 }

@@ -1,7 +1,4 @@
-pub mod AllTaken
 pub mod Cliques
-pub mod FreeAll
-pub mod Inserted
 pub mod NewCliques
 pub mod Peeled
 pub mod RowLinks

@@ -17,7 +17,7 @@ use Rattle.checks.proofs.Near.{near-none}
 use Rattle.checks.specs.Neighbours.{Neighbours, lastWeight}
 use Rattle.sets.specs.Value.{noRows}
 use Rattle.slots.specs.Tables.{Tables}
-use Rattle.slots.specs.Shows.{Shows}
+use Rattle.slots_theory.specs.Shows.{Shows}
 use Rattle.runs.specs.Lent.{level, left, cleared}
 use Rattle.runs.proofs.Left.{cleared-shown}
 use Rattle.sequential.specs.declared.State.{State}
@@ -79,5 +79,5 @@ every-list p k T r U m ok X A S W i =
     record {
       answers = g .0;
       holds = g .1;
-      now = λ old a out l. record { chains = all-chains (acceptedLinks p k n [] X) p k; answer = l .answer p k n _ (g .1); bytes = l .bytes p k n _ (g .1) };
+      now = λ old a out l. record { chains = all-chains (acceptedLinks p k n [] X) p k; lists = l .lists p k n _ (g .1) };
     }

@@ -1,18 +1,18 @@
 -- What the number of an insert says where state and tables hold the accepted links, and that they hold those with one more after it. Assumes nothing.
 use mathlib.Core.Path.{_≡_, refl, sym, ap, ap₂, _∙_, subst⁻¹}
-use mathlib.Core.Bool.{Bool, true, false, cond, _&&_}
+use mathlib.Core.Bool.{Bool, true, false, cond}
 use mathlib.Core.List.{List, [], _∷_, _++_}
 use Prim.Native.Nat.{ℕ, zero, suc, _+_, _-_, _≤_, _<_}
 use native.Mathlib.Omega.{arith}
 use lib.Dec.{leb}
-use lib.ListN.{length, getD}
-use borrow.Author.Tests.{leb-true, le-leb, eq-eqb}
+use lib.ListN.{getD}
+use borrow.Author.Tests.{leb-true, le-leb}
 use Rattle.answers.specs.Verdict.{Verdict, accepted, refused, _then_, unless}
 use Rattle.answers.specs.Answers.{counts, refuses, says}
 use Rattle.answers.proofs.Laws.{go, then-go, then-stop, say-accepted, say-refused, accepted-not}
 use Rattle.sets.specs.Lists.{below}
-use Rattle.sets.specs.Value.{width, rows}
-use Rattle.sets.proofs.Tests.{iff, and-intro, and-left, and-right}
+use Rattle.sets.specs.Value.{width}
+use Rattle.sets.proofs.Tests.{iff, and-intro}
 use Rattle.sets.proofs.ListLaws.{all-at, below-of}
 use Rattle.percolation.specs.Links.{Link, cliques, slots}
 use Rattle.percolation.specs.Ranges.{goodCount, goodK}
@@ -24,12 +24,14 @@ use Rattle.checks.specs.Model.{linkNumber, marked}
 use Rattle.checks.proofs.Near.{near-more, last-more}
 use Rattle.checks.proofs.Numbers.{numbered, numbered-0, numbered-not, link-says}
 use Rattle.slots.specs.Tables.{Tables, room}
-use Rattle.slots.specs.Shows.{Shows}
-use Rattle.slots.proofs.Shown.{used-slots}
-use Rattle.search.specs.Model.{addedBy, newCliques, tookAll}
+use Rattle.slots_theory.specs.Shows.{Shows}
+use Rattle.slots.proofs.Lengths.{enough-room, room-enough}
+use Rattle.slots_theory.proofs.Shown.{used-slots}
+use Rattle.search.specs.Model.{addedBy, newCliques}
+use Rattle.clique_taking.specs.Model.{tookAll}
 use Rattle.search.proofs.SlotTally.{slots-more}
-use Rattle.search.proofs.Inserted.{insert-shown}
-use Rattle.search.proofs.AllTaken.{all-kept}
+use Rattle.clique_taking.proofs.Inserted.{insert-shown}
+use Rattle.clique_taking.proofs.AllTaken.{all-kept}
 use Rattle.runs.specs.Lent.{level}
 use Rattle.sequential.specs.declared.State.{State}
 use Rattle.sequential.specs.declared.Stepped.{Stepped}
@@ -70,9 +72,7 @@ module _ (p k n : ℕ) (L : List Link) (S : State) (T : Tables) (h : Holds p k n
   held-level : level T ≡ true
   unfolding level
   held-level =
-      let v = h .shows .level in
-      and-intro _ _ (eq-eqb (rows (T .sets)) (length (T .entries)) (v .sets))
-      (and-intro _ _ (eq-eqb (rows (T .smallest)) (length (T .entries)) (v .smallest)) (eq-eqb (rows (T .unions)) (length (T .entries)) (v .unions)))
+      let v = h .shows .level in and-intro _ _ (v .sets) (and-intro _ _ (v .smallest) (v .unions))
 
   held-good : goodState S (T .entries) ≡ true
   unfolding goodState
@@ -131,20 +131,10 @@ module _ (p k n : ℕ) (L : List Link) (S : State) (T : Tables) (h : Holds p k n
           ∙ ap₂ (λ (u j : ℕ). u + addedBy R j (l .low) (l .high)) (sym used-is) (sym (h .same-k))
 
       enough-is : enough n (slots p k (cliques (L ++ (l ∷ [])) p k)) ≡ leb more (room (T .entries) - S .used)
-      unfolding enough room
-      enough-is = iff _ _ (λ e. le-leb more _ (omega (arith, to e))) (λ e. fro (leb-true more _ e))
-        where
-          c : ℕ
-          c = slots p k (cliques (L ++ (l ∷ [])) p k)
-
-          to : leb c n && leb c 16777216 ≡ true → more ≤ room (T .entries) - S .used
-          to e =
-              omega (arith, leb-true c n (and-left (leb c n) (leb c 16777216) e), leb-true c 16777216 (and-right (leb c n) (leb c 16777216) e), slots-with, h .slots, h .same-used, h .shows .fits)
-
-          fro : more ≤ room (T .entries) - S .used → leb c n && leb c 16777216 ≡ true
-          fro e =
-              and-intro (leb c n) (leb c 16777216) (le-leb c n (omega (arith, slots-with, h .slots, h .same-used, h .shows .fits, e)))
-              (le-leb c 16777216 (omega (arith, slots-with, h .slots, h .same-used, h .shows .fits, e)))
+      enough-is =
+          ap (λ (m : ℕ). enough m (slots p k (cliques (L ++ (l ∷ [])) p k))) (sym (h .slots))
+          ∙ iff _ _ (λ e. le-leb more _ (omega (arith, room-enough (T .entries) _ e, slots-with, h .same-used, h .shows .fits)))
+          (λ e. enough-room (T .entries) _ (omega (arith, leb-true more _ e, slots-with, h .same-used, h .shows .fits)))
 
     pub step-says : checkInsert p k n L l ≡ numbered (linkStep S (T .entries) l) 0
     unfolding checkInsert linkStep
@@ -168,12 +158,8 @@ module _ (p k n : ℕ) (L : List Link) (S : State) (T : Tables) (h : Holds p k n
       abbrev passed : checkLink p L l 0 ≡ accepted
       passed = insert-checks p k n L l ok
 
-      room-enough : slots p k (cliques (L ++ (l ∷ [])) p k) ≤ room (T .entries)
-      unfolding enough room
-      room-enough =
-          let c = slots p k (cliques (L ++ (l ∷ [])) p k) in
-          let e = insert-fits p k n L l ok in
-          omega (arith, leb-true c n (and-left (leb c n) (leb c 16777216) e), leb-true c 16777216 (and-right (leb c n) (leb c 16777216) e), h .slots)
+      within : slots p k (cliques (L ++ (l ∷ [])) p k) ≤ room (T .entries)
+      within = room-enough (T .entries) _ (ap (λ (m : ℕ). enough m (slots p k (cliques (L ++ (l ∷ [])) p k))) (h .slots) ∙ insert-fits p k n L l ok)
 
       pub held-more : Holds p k n (L ++ (l ∷ [])) (insertedState S T l) (insertedTables S T l)
       unfolding insertedState insertedTables
@@ -189,7 +175,7 @@ module _ (p k n : ℕ) (L : List Link) (S : State) (T : Tables) (h : Holds p k n
         slots = all-kept T (newCliques R (S .k) (l .low) (l .high)) .entries ∙ h .slots;
         shows =
             subst⁻¹ (λ (j : ℕ). Shows p k (cliques (L ++ (l ∷ [])) p k) (tookAll T (newCliques R j (l .low) (l .high)))) (h .same-k)
-            (insert-shown p L R (h .links) wide (h .near) l k two (check-new p L l 0 passed) (rising passed) (fits passed) T (h .shows) room-enough);
+            (insert-shown p L R (h .links) wide (h .near) l k two (check-new p L l 0 passed) (rising passed) (fits passed) T (h .shows) within);
       }
 
 -- ---- what an insert must do is what the code does: a refused one, and an accepted one

@@ -2,5 +2,4 @@ pub mod Checking
 pub mod Every
 pub mod Inserting
 pub mod NowListed
-pub mod Running
 pub mod Starting

@@ -1,21 +1,20 @@
 -- What the listing now must do is what the code does: refused by 11 or 12, and listed from the ends of the slots. Assumes nothing.
-use mathlib.Core.Path.{_≡_, sym, ap, _∙_}
+use mathlib.Core.Path.{_≡_, sym, ap, _∙_, subst}
 use mathlib.Core.List.{List}
 use Prim.Native.Nat.{ℕ}
 use native.Mathlib.Omega.{arith}
 use lib.ListN.{length}
-use Rattle.answers.specs.Verdict.{written}
-use Rattle.answers.specs.Answers.{refuses, says, sayOf}
+use Rattle.answers.specs.Answers.{refuses, says}
 use Rattle.answers.specs.declared.Answer.{Answer}
 use Rattle.answers.proofs.Laws.{said-refused, written-refused, accepted-not}
-use Rattle.percolation.specs.Percolate.{Community, communities, listingBytes}
+use Rattle.percolation.specs.Percolate.{Community, communities}
 use Rattle.percolation.specs.Links.{Link, cliques, listing, family}
 use Rattle.percolation.proofs.Levels.{heavy-zero}
 use Rattle.percolation.proofs.Ranges.{good-k}
 use Rattle.checks.proofs.Numbers.{numbered-0}
 use Rattle.slots.specs.Tables.{Tables}
-use Rattle.search.proofs.Inserted.{cliques-family}
-use Rattle.listings.specs.Listing.{checkOut}
+use Rattle.clique_taking.proofs.Inserted.{cliques-family}
+use Rattle.listings.specs.Listing.{WritesListing}
 use Rattle.listings.specs.Model.{listed}
 use Rattle.listings.proofs.Listed.{listed-communities}
 use Rattle.sequential.specs.declared.State.{State}
@@ -28,8 +27,7 @@ module _ (S : State) (T : Tables) (old : List ℕ) (r : Answer) (out : List ℕ)
   unlisted-meets n e bad a o = record {
     checked = λ m b c.
         let f = numbered-refused (stateNumber S T) 0 m b (sym (state-says S T) ∙ c) in a ∙ ap (λ (x : ℕ). refuses x 0) (e ∙ f .0) ∙ ap (refuses m) (f .1 .1);
-    answer = λ p k n L h. absurd (bad (e ∙ held-number p k n L S T h));
-    bytes = λ p k n L h. absurd (bad (e ∙ held-number p k n L S T h));
+    lists = λ p k n L h. absurd (bad (e ∙ held-number p k n L S T h));
     kept = λ m b c. o;
   }
 
@@ -44,11 +42,9 @@ module _ (S : State) (T : Tables) (old : List ℕ) (r : Answer) (out : List ℕ)
       ∙ listed-communities p k (cliques L p k) T (cliques-family L p k) (omega (arith, good-k k (h .size) .0)) (h .shows)
       ∙ ap (λ (M : List Link). communities k (cliques M p k)) (sym (heavy-zero L))
 
-  pub listed-meets : stateNumber S T ≡ 0 → says r ≡ sayOf (checkOut C (length old)) (length C) → out ≡ written (checkOut C (length old)) (listingBytes C) old
-      → ListingNowMeets S T old r out
-  listed-meets z a o = record {
+  pub listed-meets : stateNumber S T ≡ 0 → WritesListing C old r out → ListingNowMeets S T old r out
+  listed-meets z w = record {
     checked = λ m b c. accepted-not m b (sym c ∙ state-says S T ∙ numbered-0 (stateNumber S T) 0 z);
-    answer = λ p k n L h. a ∙ ap (λ (D : List Community). sayOf (checkOut D (length old)) (length D)) (ends-are p k n L h);
-    bytes = λ p k n L h. o ∙ ap (λ (D : List Community). written (checkOut D (length old)) (listingBytes D) old) (ends-are p k n L h);
-    kept = λ m b c. o ∙ written-refused (checkOut C (length old)) (listingBytes C) old m b (said-refused (checkOut C (length old)) (length C) m b (sym c ∙ a));
+    lists = λ p k n L h. subst (λ (D : List Community). WritesListing D old r out) (ends-are p k n L h) w;
+    kept = λ m b c. w .bytes ∙ written-refused _ _ old m b (said-refused _ (length C) m b (sym c ∙ w .answer));
   }

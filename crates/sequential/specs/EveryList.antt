@@ -3,15 +3,13 @@
 use mathlib.Core.Path.{_≡_}
 use mathlib.Core.List.{List, [], _∷_, map}
 use Prim.Native.Nat.{ℕ}
-use lib.ListN.{length}
-use Rattle.answers.specs.Verdict.{written}
 use Rattle.answers.specs.Answers.{Said, says, sayOf}
 use Rattle.answers.specs.declared.Answer.{Answer}
-use Rattle.percolation.specs.Percolate.{Community, ChainListing, listingBytes}
+use Rattle.percolation.specs.Percolate.{Community, ChainListing}
 use Rattle.percolation.specs.Links.{Link, cliques, listing}
 use Rattle.percolation.specs.Steps.{acceptedLinks, insertAnswers}
 use Rattle.slots.specs.Tables.{Tables}
-use Rattle.listings.specs.Listing.{checkOut}
+use Rattle.listings.specs.Listing.{WritesListing}
 use Rattle.sequential.specs.declared.State.{State}
 use Rattle.sequential.specs.declared.Stepped.{Stepped}
 use Rattle.sequential.specs.Steps.{Holds, InsertMeets, ListingNowMeets}
@@ -25,8 +23,7 @@ pub data Inserts : State → Tables → List Link → List Said → State → Ta
 -- out and its answer r are the listing C of the chain classes of F, or 16
 pub record Lists (k : ℕ) (F : List ℕ) (C : List Community) (old : List ℕ) (r : Answer) (out : List ℕ) : Type 0 where
   pub chains : ChainListing k F C
-  pub answer : says r ≡ sayOf (checkOut C (length old)) (length C)
-  pub bytes : out ≡ written (checkOut C (length old)) (listingBytes C) old
+  pub lists : WritesListing C old r out
 
 -- what is claimed of the inserts X, which gave the answers A and left the state S and the tables T, where the tables have n slots
 pub record Claim (p k n : ℕ) (X : List Link) (A : List Said) (S : State) (T : Tables) : Type 0 where

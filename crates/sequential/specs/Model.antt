@@ -6,7 +6,8 @@ use lib.Dec.{leb}
 use Rattle.percolation.specs.Links.{Link}
 use Rattle.checks.specs.Model.{linkNumber, marked}
 use Rattle.slots.specs.Tables.{Tables, room}
-use Rattle.search.specs.Model.{addedBy, newCliques, tookAll}
+use Rattle.search.specs.Model.{addedBy, newCliques}
+use Rattle.clique_taking.specs.Model.{tookAll}
 use Rattle.runs.specs.Lent.{level}
 use Rattle.sequential.specs.declared.State.{State}
 use Rattle.sequential.specs.Steps.{state, goodState}

@@ -5,20 +5,19 @@ use mathlib.Core.List.{List}
 use Prim.Native.Nat.{ℕ}
 use lib.Dec.{leb}
 use lib.ListN.{length, getD}
-use Rattle.answers.specs.Verdict.{Verdict, accepted, refused, _then_, unless, written}
+use Rattle.answers.specs.Verdict.{Verdict, accepted, refused, _then_, unless}
 use Rattle.answers.specs.Answers.{refuses, says, sayOf}
 use Rattle.answers.specs.declared.Answer.{Answer}
 use Rattle.sets.specs.Lists.{all, below}
 use Rattle.sets.specs.Value.{noRows}
-use Rattle.percolation.specs.Percolate.{listingBytes}
 use Rattle.percolation.specs.Links.{Link, cliques, listing}
 use Rattle.percolation.specs.Ranges.{goodCount, goodK}
 use Rattle.percolation.specs.Steps.{legal, checkInsert, accept}
 use Rattle.checks.specs.Neighbours.{Neighbours, lastWeight}
 use Rattle.slots.specs.Tables.{Tables, room}
-use Rattle.slots.specs.Shows.{Shows}
+use Rattle.slots_theory.specs.Shows.{Shows}
 use Rattle.runs.specs.Lent.{level, left}
-use Rattle.listings.specs.Listing.{checkOut}
+use Rattle.listings.specs.Listing.{WritesListing}
 use Rattle.sequential.specs.declared.State.{State}
 use Rattle.sequential.specs.declared.Stepped.{Stepped}
 
@@ -83,9 +82,6 @@ pub record ListingNowMeets (S : State) (T : Tables) (old : List ℕ) (r : Answer
   -- 11 and 12
   pub checked : (n a : ℕ) → checkState S T ≡ refused n a → says r ≡ refuses n a
   -- the listing of the accepted links, or 16
-  pub answer : (p k n : ℕ) (L : List Link) → Holds p k n L S T
-      → says r ≡ sayOf (checkOut (listing L p k 0) (length old)) (length (listing L p k 0))
-  pub bytes : (p k n : ℕ) (L : List Link) → Holds p k n L S T
-      → out ≡ written (checkOut (listing L p k 0) (length old)) (listingBytes (listing L p k 0)) old
+  pub lists : (p k n : ℕ) (L : List Link) → Holds p k n L S T → WritesListing (listing L p k 0) old r out
   -- a refusal writes no output
   pub kept : (n a : ℕ) → says r ≡ refuses n a → out ≡ old

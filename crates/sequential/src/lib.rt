@@ -1,20 +1,15 @@
-// The sequential run: start, insert, the listing now, and the listing of a sheet by what these steps are made of.
+// The steps of the sequential run: start, insert, and the listing now.
 ghost use mathlib.Core.Path.{_≡_};
 ghost use Prim.Native.Nat.{_≤_};
-ghost use lib.ListN.{length};
-ghost use Rattle.answers.specs.Verdict.{accepted, written};
-ghost use Rattle.answers.specs.Answers.{refuses, says, sayOf};
-ghost use Rattle.percolation.specs.Percolate.{listingBytes};
+ghost use Rattle.answers.specs.Answers.{refuses, says};
 ghost use Rattle.percolation.specs.Links.{link};
-ghost use Rattle.sheet.specs.Sheet.{parts, links};
 ghost use Rattle.sets.specs.Value.{noRows};
 ghost use Rattle.slots.specs.Tables.{tables, room};
-ghost use Rattle.runs.specs.Lent.{lent, checkCall};
+ghost use Rattle.runs.specs.Lent.{lent};
 ghost use Rattle.sequential.specs.Steps.{state, goodState, StartMeets, InsertMeets, ListingNowMeets};
-ghost use Rattle.runs.specs.OnSheet.{listingOf, slotsFor, checkRun, ListingMeets};
 ghost use Rattle.sequential.specs.Model.{stateNumber, linkStep, insertNumber};
 use answers::Answer;
-use sheet::Checked;
+use sets::Rows;
 
 // What goes from step to step beside the tables: p, k, how many slots are used, the last weight (65,535 with no link), and the neighbours of each part.
 #[repr(C)]
@@ -23,7 +18,7 @@ pub struct State {
     pub k: usize,
     pub used: usize,
     pub last: usize,
-    pub rows: [u64; 64],
+    pub rows: Rows,
 }
 
 // What a step gives back: its answer, and the state for the next one.
@@ -96,7 +91,7 @@ fn good_state(state: State, entries: &[u32]) -> bool
     if slots::room(entries) < state.used {
         return false;
     }
-    slots::steady(entries, state.used)
+    joining::steady(entries, state.used)
 }
 
 // The first of 11 and 12 that applies to a state and its tables, or 0.
@@ -209,67 +204,4 @@ pub fn listing_now(
         return Answer::Refused(n, 0);
     }
     listings::list_roots(entries, smallest, unions, state.used, out)
-}
-
-// The listing of an admitted sheet at t, in tables that it leaves anyhow: 15, by the rows of the links alone, then the links, then 16.
-fn run(
-    sheet: &[u8],
-    p: usize,
-    m: usize,
-    k: usize,
-    t: u16,
-    sets: &mut [u64],
-    entries: &mut [u32],
-    smallest: &mut [u64],
-    unions: &mut [u64],
-    out: &mut [u8],
-) -> Answer
-    requires { ⌜ (checkCall (now sheet) k (lent (now sets) (now entries) (now smallest) (now unions)) ≡ accepted) × (p ≡ parts (now sheet)) × (m ≡ links (now sheet)) ⌝ }
-    ensures { λ r. ⌜ says r ≡ sayOf (checkRun (slotsFor (now (sheet .entry)) k t) (now (sheet .entry)) k t (now (entries .entry)) (length (now (out .entry)))) (length (listingOf (now (sheet .entry)) k t)) ⌝ }
-    ensures { λ _. ⌜ now (out .exit) ≡ written (checkRun (slotsFor (now (sheet .entry)) k t) (now (sheet .entry)) k t (now (entries .entry)) (length (now (out .entry)))) (listingBytes (listingOf (now (sheet .entry)) k t)) (now (out .entry)) ⌝ }
-{
-    let n = runs::heavy(sheet, m, t);
-    let rows = runs::rows_of(sheet, n);
-    let need = search::needed(&rows, p, k);
-    if slots::room(entries) < need {
-        return Answer::Refused(15, 0);
-    }
-    runs::clear(sets, entries, smallest, unions);
-    let mut seen = sets::no_rows();
-    let used = runs::take_links(
-        sheet,
-        &mut seen,
-        sets,
-        entries,
-        smallest,
-        unions,
-        0,
-        k,
-        0,
-        n,
-    );
-    listings::list_roots(entries, smallest, unions, used, out)
-}
-
-// The listing of a sheet at threshold t: 1 to 9, 10, 11, 15, 16. The tables are zeroed whenever it came as far as 15.
-pub fn listing(
-    sheet: &[u8],
-    k: usize,
-    t: u16,
-    sets: &mut [u64],
-    entries: &mut [u32],
-    smallest: &mut [u64],
-    unions: &mut [u64],
-    out: &mut [u8],
-) -> Answer
-    ensures { λ r. ⌜ ListingMeets (slotsFor (now (sheet .entry)) k t) (now (sheet .entry)) k t (lent (now (sets .entry)) (now (entries .entry)) (now (smallest .entry)) (now (unions .entry))) (now (out .entry)) r (lent (now (sets .exit)) (now (entries .exit)) (now (smallest .exit)) (now (unions .exit))) (now (out .exit)) ⌝ }
-{
-    match runs::admit(sheet, k, sets, entries, smallest, unions) {
-        Checked::Faulty(n, a) => Answer::Refused(n, a),
-        Checked::Fine(p, m) => {
-            let answer = run(sheet, p, m, k, t, sets, entries, smallest, unions, out);
-            runs::clear(sets, entries, smallest, unions);
-            answer
-        }
-    }
 }

@@ -4,7 +4,7 @@ use mathlib.Core.Bool.{Bool, false, not, _&&_}
 use mathlib.Core.Path.{_≡_, sym, ap, ap₂, _∙_, subst}
 use mathlib.Core.Logic.{_⊎_, inl, inr}
 use Prim.Native.Nat.{ℕ, zero, suc, _+_, _-_, _*_, _/_, _%_, _^_, _≤_, _<_}
-use native.Mathlib.Nat.{not-suc-le-zero, le-of-suc-le-suc, mul-comm, zero-mul, zero-add, add-zero, mul-le-mul-right, suc-mul}
+use native.Mathlib.Nat.{not-suc-le-zero, le-of-suc-le-suc, mul-le-mul-right, suc-mul}
 use native.Mathlib.Omega.{arith}
 use borrow.Author.Tests.{lt-ltb, le-ltb}
 use lib.Dec.{ltb}
@@ -12,7 +12,7 @@ use lib.Arith.{digits-lt}
 use lib.Pow.{pow-pos, pow-add, shr-shr, high, low}
 use lib.Bits.{and-block, or-block, block-half, block-odd}
 use lib.Count.{ones-cat}
-use Rattle.sets.specs.Sets.{bit, has, one, meet, union, minus, size, before, lowest}
+use Rattle.sets.specs.Sets.{bit, has, meet, union, minus, size, before, lowest}
 use Rattle.sets.proofs.Laws.{has-zero, has-suc, has-empty, has-minus, has-lt, ext, size-ones}
 use Rattle.sets.proofs.Tests.{lt-or-le}
 use Rattle.sets.proofs.Members.{lowest-is, lowest-has, lowest-least}
@@ -75,18 +75,6 @@ minus-glue k a b r s hr hs hm = ext-glue k (minus (glue k a r) (glue k b s)) (gl
 pub size-glue : (k a r : ℕ) → r < 2 ^ k → size (glue k a r) ≡ size a + size r
 unfolding glue
 size-glue k a r h = sym (size-ones (a * 2 ^ k + r)) ∙ ones-cat k a r h ∙ ap₂ (λ (x y : ℕ). x + y) (size-ones a) (size-ones r)
-
-pub one-low : (k q : ℕ) → glue k 0 (one q) ≡ one q
-unfolding glue
-one-low k q = ap (λ (x : ℕ). x + one q) (zero-mul (2 ^ k)) ∙ zero-add (one q)
-
-pub one-high : (k q : ℕ) → glue k (one q) 0 ≡ one (k + q)
-unfolding glue one
-one-high k q = add-zero (2 ^ q * 2 ^ k) ∙ mul-comm (2 ^ q) (2 ^ k) ∙ sym (pow-add 2 k q)
-
-pub glue-none : (k : ℕ) → glue k 0 0 ≡ 0
-unfolding glue
-glue-none k = add-zero (0 * 2 ^ k) ∙ zero-mul (2 ^ k)
 
 -- ---- equal, and in order
 

@@ -1,6 +1,7 @@
 pub mod Facts
 pub mod Glue
 pub mod Held
+pub mod Insertion
 pub mod Laws
 pub mod ListLaws
 pub mod LowParts
@@ -8,6 +9,8 @@ pub mod Members
 pub mod OneWord
 pub mod Order
 pub mod Parts
+pub mod RowNumbers
 pub mod SetBytes
 pub mod Tables
 pub mod Tests
+pub mod WordLists

@@ -3,10 +3,10 @@ use mathlib.Core.Path.{_≡_, refl, sym, ap, ap₂, _∙_, subst, subst⁻¹}
 use mathlib.Core.Logic.{_⊎_, inl, inr}
 use mathlib.Core.Bool.{Bool, true, false, not, _&&_, _||_, and-true, and-assoc}
 use mathlib.Core.List.{List, [], _∷_, _++_, map, flatten, append-nil, List·Memᴰ·head, List·Memᴰ·tail, List·Memᴰ·not-nil, List·Memᴰ·cases-cons, List·Memᴰ·append-cases, Memᴰ·cast, Memᴰ·append-left, Memᴰ·append-right, Memᴰ·map, Memᴰ·of-map}
-use Prim.Native.Nat.{ℕ, zero, suc, _+_, _≤_, _<_}
+use Prim.Native.Nat.{ℕ, zero, suc, _+_, _-_, _≤_, _<_}
 use native.Mathlib.Omega.{arith}
 use lib.Dec.{ltb, eqb}
-use lib.ListN.{length, getD}
+use lib.ListN.{length, getD, length-append}
 use borrow.Author.Tests.{ltb-true, ltb-false, lt-ltb, le-ltb, eq-eqb, eqb-true, not-true}
 use Rattle.sets.specs.Lists.{_∈_, any, all, keep, eachTwo, placed, sorted, from, below}
 use Rattle.sets.proofs.Tests.{never, split, and-intro, and-left, and-right, or-left, or-right, or-cases, lt-or-le, not-so}
@@ -598,6 +598,30 @@ from-more i (suc n) =
 pub below-more : (n : ℕ) → below (suc n) ≡ below n ++ (n ∷ [])
 unfolding below
 below-more n = from-more 0 n ∙ ap (λ (j : ℕ). from 0 n ++ (j ∷ [])) (let e : 0 + n ≡ n = omega arith in e)
+
+-- ---- the numbers below one less are the first of them
+
+from-split : (i k m : ℕ) → from i (k + m) ≡ from i k ++ from (i + k) m
+unfolding from
+from-split i zero m = ap₂ from (let e : i ≡ i + 0 = omega arith in e) (let e : 0 + m ≡ m = omega arith in e)
+from-split i (suc k) m =
+    ap (from i) (let e : suc k + m ≡ suc (k + m) = omega arith in e)
+    ∙ ap (λ (l : List ℕ). i ∷ l) (from-split (suc i) k m ∙ ap (λ (j : ℕ). from (suc i) k ++ from j m) (let e : suc i + k ≡ i + suc k = omega arith in e))
+
+pub below-split : (i n : ℕ) → i ≤ n → below n ≡ below i ++ from i (n - i)
+unfolding below
+below-split i n h =
+    ap (from 0) (let e : n ≡ i + (n - i) = omega arith in e) ∙ from-split 0 i (n - i) ∙ ap (λ (j : ℕ). from 0 i ++ from j (n - i)) (let e : 0 + i ≡ i = omega arith in e)
+
+-- a test passes no more often below a number than below a greater one
+pub keep-below-le : (f : ℕ → Bool) (i n : ℕ) → i ≤ n → length (keep f (below i)) ≤ length (keep f (below n))
+keep-below-le f i n h =
+    omega (
+      arith,
+      ap (λ (l : List ℕ). length (keep f l)) (below-split i n h),
+      ap length (keep-append f (below i) (from i (n - i))),
+      length-append (keep f (below i)) (keep f (from i (n - i))),
+    )
 
 -- what a test keeps of them
 pub keep-below-yes : (f : ℕ → Bool) (n : ℕ) → f n ≡ true → keep f (below (suc n)) ≡ keep f (below n) ++ (n ∷ [])

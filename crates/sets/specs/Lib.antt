@@ -1,3 +1,4 @@
 pub mod Lists
 pub mod Sets
 pub mod Value
+pub mod Words

@@ -38,6 +38,17 @@ module _ {A : Type 0} where
   sorted first [] = []
   sorted first (x ∷ l) = placed first x (sorted first l)
 
+  -- x put before the first that comes after it, whether it is there or not
+  unfoldable pub insertBy : (A → A → Bool) → A → List A → List A
+  insertBy first x [] = x ∷ []
+  insertBy first x (y ∷ l) = elim (first x y) [ true ↦ x ∷ y ∷ l | false ↦ y ∷ insertBy first x l ]
+
+  -- each of a list put so among those of l, one after the other
+  unfoldable pub insertAll : (A → A → Bool) → List A → List A → List A
+  unfolding insertBy
+  insertAll first l [] = l
+  insertAll first l (x ∷ k) = insertAll first (insertBy first x l) k
+
 -- i, i + 1, .., n of them
 unfoldable pub from : ℕ → ℕ → List ℕ
 from i zero = []

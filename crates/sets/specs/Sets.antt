@@ -1,6 +1,6 @@
 -- Sets of parts as plain numbers: a set has the number that is the sum of 2 ^ q over its parts q. No width is named: a set is any number.
 -- Callers go by the laws of proofs/ and unfold nothing. Assumes nothing.
-use mathlib.Core.Bool.{Bool, true, false}
+use mathlib.Core.Bool.{Bool, true, false, cond}
 use mathlib.Core.List.{List, foldr}
 use Prim.Native.Nat.{ℕ, zero, suc, _+_, _-_, _*_, _/_, _%_, _^_}
 use lib.Dec.{ltb, eqb}
@@ -62,6 +62,11 @@ sub s t = eqb (meet s t) s
 -- the order of sets: by number
 unfoldable pub before : ℕ → ℕ → Bool
 before s t = ltb s t
+
+-- the lesser of two sets
+unfoldable pub lesser : ℕ → ℕ → ℕ
+unfolding before
+lesser s t = cond (before t s) t s
 
 -- the least part of an s that has one; 0 of the empty set
 abbrev pub lowestIn : ℕ → ℕ → ℕ

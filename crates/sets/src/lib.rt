@@ -5,8 +5,8 @@ ghost use mathlib.Core.Bool.{cond};
 ghost use lib.Dec.{ltb, leb, eqb};
 ghost use lib.ListN.{length, replicate};
 ghost use Prim.Native.Nat.{min, _+_};
-ghost use Rattle.sets.specs.Sets.{has, one, meet, union, minus, into, out, size, sub, before, lowest, lows, full};
-ghost use Rattle.sets.specs.Value.{width, num, rows, row, store, noRows, setLength, withSet, setAt};
+ghost use Rattle.sets.specs.Sets.{has, one, meet, union, minus, into, out, size, sub, before, lesser, lowest, lows, full};
+ghost use Rattle.sets.specs.Value.{width, num, rows, row, store, sized, numberAt, noRows, setLength, withSet, setAt};
 
 // Its word is nobody else's to see: a wider set changes this crate alone.
 pub struct Set {
@@ -122,6 +122,13 @@ pub fn same(s: Set, t: Set) -> bool
     s.word == t.word
 }
 
+// The lesser of two sets.
+pub fn lesser(s: Set, t: Set) -> Set
+    ensures { λ r. ⌜ num r ≡ lesser (num s) (num t) ⌝ }
+{
+    if less(t, s) { t } else { s }
+}
+
 // The lowest part, and 64 for the empty set.
 pub fn lowest(s: Set) -> usize
     ensures { λ r. ⌜ r ≡ cond (eqb (num s) 0) width (lowest (num s)) ⌝ }
@@ -167,8 +174,18 @@ pub fn word(s: Set) -> u64
     s.word
 }
 
-// A table with a row for each part, all empty.
-pub fn no_rows() -> [u64; 64]
+// How many parts a set can hold.
+pub fn most() -> usize
+    ensures { λ r. ⌜ r ≡ width ⌝ }
+{
+    64
+}
+
+// A table with a row for each part.
+pub type Rows = [u64; 64];
+
+// Such a table, all its rows empty.
+pub fn no_rows() -> Rows
     ensures { λ r. ⌜ r ≡ noRows ⌝ }
 {
     [0u64; 64]
@@ -179,6 +196,13 @@ pub fn rows(table: &[u64]) -> usize
     ensures { λ r. ⌜ r ≡ rows (now (table .entry)) ⌝ }
 {
     table.len()
+}
+
+// Whether a table holds n sets and no word more.
+pub fn sized(table: &[u64], n: usize) -> bool
+    ensures { λ r. ⌜ r ≡ sized (now (table .entry)) n ⌝ }
+{
+    table.len() == n
 }
 
 // The set at i of a table; the empty set past its end.
@@ -199,6 +223,19 @@ pub fn put(table: &mut [u64], i: usize, s: Set)
     if i < table.len() {
         table[i] = s.word;
     }
+}
+
+// A number below 2 ^ 64 in a row that holds no set: what stands at i, and n put there. Past the table's end 0, and nothing changes.
+pub fn number_at(table: &[u64], i: usize) -> u64
+    ensures { λ r. ⌜ r ≡ numberAt (now (table .entry)) i ⌝ }
+{
+    word(at(table, i))
+}
+
+pub fn put_number(table: &mut [u64], i: usize, n: u64)
+    ensures { λ r. ⌜ now (table .exit) ≡ store (now (table .entry)) i n ⌝ }
+{
+    put(table, i, from_word(n))
 }
 
 // Every word of a table becomes zero: each of its sets is the empty set.

@@ -1,37 +1,34 @@
 // Runs each function of the crate sets on a few sets, edges among them, and prints what it answers: held to the file stdout.
-use libc::STDOUT_FILENO;
+use console::field;
+use console::text;
 use sets::Set;
 
-fn number(n: u64) {
-    io::print_decimal(STDOUT_FILENO, n);
-    io::write_all(STDOUT_FILENO, b" ");
-}
-
 fn count(n: usize) {
-    number(n as u64);
+    field(b"", n);
+    text(b" ");
 }
 
 fn set(s: Set) {
-    number(sets::word(s));
+    count(sets::word(s) as usize);
 }
 
 fn truth(t: bool) {
     if t {
-        io::write_all(STDOUT_FILENO, b"yes ");
+        text(b"yes ");
     } else {
-        io::write_all(STDOUT_FILENO, b"no ");
+        text(b"no ");
     }
 }
 
 fn end() {
-    io::write_all(STDOUT_FILENO, b"\n");
+    text(b"\n");
 }
 
 // What is asked of two sets.
 fn pair(a: u64, b: u64) {
     let s = sets::from_word(a);
     let t = sets::from_word(b);
-    io::write_all(STDOUT_FILENO, b"pair ");
+    text(b"pair ");
     set(s);
     set(t);
     set(sets::union(s, t));
@@ -40,13 +37,14 @@ fn pair(a: u64, b: u64) {
     truth(sets::subset(s, t));
     truth(sets::less(s, t));
     truth(sets::same(s, t));
+    set(sets::lesser(s, t));
     end();
 }
 
 // What is asked of a set and a part or a number.
 fn part(a: u64, q: usize) {
     let s = sets::from_word(a);
-    io::write_all(STDOUT_FILENO, b"part ");
+    text(b"part ");
     set(s);
     count(q);
     truth(sets::has(s, q));
@@ -65,7 +63,7 @@ fn table() {
     let mut rows: [u64; 3] = [1, 2, 3];
     sets::put(&mut rows, 1, sets::from_word(28));
     sets::put(&mut rows, 3, sets::from_word(9));
-    io::write_all(STDOUT_FILENO, b"table ");
+    text(b"table ");
     count(sets::rows(&rows));
     set(sets::at(&rows, 0));
     set(sets::at(&rows, 1));
@@ -77,8 +75,24 @@ fn table() {
     end();
 }
 
+// Whether a table has a size, one word less or more among them; numbers kept in its rows, within and past its end.
+fn numbers() {
+    let mut rows: [u64; 3] = [1, 2, 3];
+    text(b"numbers ");
+    truth(sets::sized(&rows, 2));
+    truth(sets::sized(&rows, 3));
+    truth(sets::sized(&rows, 4));
+    sets::put_number(&mut rows, 1, 18446744073709551615);
+    sets::put_number(&mut rows, 3, 9);
+    count(sets::number_at(&rows, 0) as usize);
+    count(sets::number_at(&rows, 1) as usize);
+    count(sets::number_at(&rows, 2) as usize);
+    count(sets::number_at(&rows, 3) as usize);
+    end();
+}
+
 fn byte(b: u8) {
-    number(b as u64);
+    count(b as usize);
 }
 
 // What stands in ten bytes: the set from each of four places on, the last two of which leave too few, and the bytes at both ends.
@@ -97,22 +111,23 @@ fn read_back(bytes: &[u8; 10]) {
 // The bytes of a set, written where they just fit, and then where they do not: that changes nothing.
 fn in_bytes() {
     let mut bytes: [u8; 10] = [255; 10];
-    io::write_all(STDOUT_FILENO, b"bytes ");
+    text(b"bytes ");
     count(sets::byte_count());
     read_back(&bytes);
     sets::put_bytes(&mut bytes, 2, sets::from_word(72623859790382856));
-    io::write_all(STDOUT_FILENO, b"bytes ");
+    text(b"bytes ");
     read_back(&bytes);
     sets::put_bytes(&mut bytes, 3, sets::from_word(7));
     sets::put_bytes(&mut bytes, 18446744073709551615, sets::from_word(7));
-    io::write_all(STDOUT_FILENO, b"bytes ");
+    text(b"bytes ");
     read_back(&bytes);
 }
 
 // A table with an empty row for each part.
 fn none() {
     let rows = sets::no_rows();
-    io::write_all(STDOUT_FILENO, b"none ");
+    text(b"none ");
+    count(sets::most());
     count(sets::rows(&rows));
     set(sets::at(&rows, 63));
     end();
@@ -139,5 +154,6 @@ fn main() {
     part(18446744073709551615, 64);
     part(1057, 1000);
     table();
+    numbers();
     in_bytes();
 }

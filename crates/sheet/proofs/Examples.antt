@@ -4,7 +4,6 @@ use mathlib.Core.List.{List, [], _∷_, _++_}
 use Prim.Native.Nat.{ℕ}
 use Rattle.answers.specs.Verdict.{accepted, refused}
 use Rattle.sheet.specs.Sheet.{checkSheet}
-use Rattle.sheet.specs.Network.{networkOf, sheetOf}
 
 -- the name A, a head, and a sheet of three parts with these bytes of links
 abbrev pub name : List ℕ
@@ -47,8 +46,3 @@ eight-nine = refl
 pub first-link : checkSheet (three 2 (0 ∷ 1 ∷ 0 ∷ 0 ∷ 2 ∷ 1 ∷ 0 ∷ 5 ∷ [])) ≡ refused 7 32
 unfolding checkSheet
 first-link = refl
-
--- a network is written as its sheet
-pub written-back : sheetOf (networkOf (three 1 (0 ∷ 2 ∷ 1 ∷ 5 ∷ []))) ≡ three 1 (0 ∷ 2 ∷ 1 ∷ 5 ∷ [])
-unfolding sheetOf networkOf
-written-back = refl

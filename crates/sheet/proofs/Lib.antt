@@ -1,14 +1,6 @@
-pub mod Again
 pub mod Examples
-pub mod Form
 pub mod Heading
-pub mod InBytes
 pub mod InTurn
 pub mod Lists
-pub mod Room
-pub mod RoundTrip
 pub mod Said
-pub mod Shape
 pub mod Sound
-pub mod Twins
-pub mod Written

@@ -1,8 +1,10 @@
 -- What each case of the sheet's answers says in document 01's numbers and values, and what is right to say of a part's name. Assumes nothing.
+use mathlib.Core.Bool.{_&&_}
 use mathlib.Core.List.{[], List}
 use Prim.Native.Nat.{ℕ, _+_}
-use lib.Dec.{ltb}
-use Rattle.answers.specs.Verdict.{Verdict, accepted, refused, _then_, unless, written}
+use lib.Dec.{leb, ltb}
+use lib.ListN.{length}
+use Rattle.answers.specs.Verdict.{Verdict, accepted, refused, _then_, unless}
 use Rattle.answers.specs.Answers.{Said, counts, refuses}
 use Rattle.percolation.specs.Links.{Link, link}
 use Rattle.sheet.specs.declared.LinkRow.{LinkRow}
@@ -10,8 +12,7 @@ use Rattle.sheet.specs.declared.Checked.{Checked}
 use Rattle.sheet.specs.declared.Checked.the-variants.{Fine, Faulty}
 use Rattle.sheet.specs.declared.Found.{Found}
 use Rattle.sheet.specs.declared.Found.the-variants.{At, Missing}
-use Rattle.sheet.specs.Sheet.{parts, links, nameAt, eightAt, checkSheet}
-use Rattle.sheet.specs.Network.{Network, network}
+use Rattle.sheet.specs.Sheet.{parts, links, nameAt, nameOf, checkSheet}
 
 -- a sheet's part count and link count, or a refusal
 pub data SheetSaid : Type 0 where
@@ -31,18 +32,17 @@ sheetSay (refused n a) s = faulty n a
 abbrev pub linkRow : LinkRow → Link
 linkRow r = link (r .low) (r .high) (r .weight)
 
--- a lent network after a call: each of its lists as `written` has it
-unfoldable pub writtenNetwork : Verdict → Network → Network → Network
-unfolding written
-writtenNetwork v n old =
-    network (written v (n .names) (old .names)) (written v (n .lower) (old .lower)) (written v (n .higher) (old .higher)) (written v (n .weights) (old .weights))
-
 -- ---- a part's name
 
 -- the sheet's own checks, then 14: a part not below p
 unfoldable pub checkPart : List ℕ → ℕ → Verdict
 unfolding checkSheet unless _then_
 checkPart s part = checkSheet s then unless (ltb part (parts s)) 14 0
+
+-- 14 alone, of a sheet that was checked before: a part not below p, or whose name does not lie in the sheet
+unfoldable pub checkNamed : List ℕ → ℕ → Verdict
+unfolding unless
+checkNamed s part = unless (ltb part (parts s) && leb (nameAt s part + 8) (length s)) 14 0
 
 -- where the name starts, or a refusal
 abbrev pub foundSays : Found → Said
@@ -51,7 +51,7 @@ foundSays (Missing n a) = refuses n a
 
 -- the eight bytes of a name, or none where it is refused
 unfoldable pub nameIn : Verdict → List ℕ → ℕ → List ℕ
-nameIn accepted s part = eightAt s (nameAt s part)
+nameIn accepted s part = nameOf s part
 nameIn (refused n a) s part = []
 
 -- where those bytes are, when the sheet is at p, a block and an offset in it: they are the very bytes of the caller's sheet

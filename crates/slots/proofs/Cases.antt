@@ -6,11 +6,12 @@ use Prim.Native.Nat.{ℕ, suc, _≤_, _<_}
 use lib.Dec.{ltb}
 use lib.ListN.{set}
 use borrow.Author.Tests.{lt-ltb, le-ltb}
-use Rattle.sets.specs.Sets.{union}
+use Rattle.sets.specs.Sets.{union, lesser}
 use Rattle.sets.specs.Value.{row, store}
 use Rattle.sets.proofs.Tests.{no-and, lt-or-le}
-use Rattle.slots.specs.Tables.{Tables, tables, room, rootOf}
-use Rattle.slots.specs.Model.{find, lesser, joined, placed, joinedUsed, touched}
+use Rattle.joining.specs.Entries.{rootOf}
+use Rattle.slots.specs.Tables.{Tables, tables, room}
+use Rattle.slots.specs.Model.{find, joined, placed, joinedUsed, touched}
 
 -- the tables with the set s of the clique Q in the first slot that is not used, a class of its own
 abbrev pub appended : Tables → ℕ → ℕ → Tables

@@ -1,24 +1,31 @@
 -- Every step keeps the lengths of the four tables, uses no slot past the room, and gives up none. Assumes nothing.
+use mathlib.Core.Bool.{true, false, _&&_}
 use mathlib.Core.Path.{_≡_, refl, sym, _∙_}
 use mathlib.Core.List.{[], List, _∷_}
 use Prim.Native.Nat.{ℕ, _≤_, _<_}
 use native.Mathlib.Omega.{arith}
+use lib.Dec.{leb}
+use borrow.Author.Tests.{leb-true, le-leb, lt-leb}
 use lib.ListN.{length, set, length-set}
-use Rattle.sets.specs.Sets.{union, out, lowest, members}
+use Rattle.sets.specs.Sets.{union, out, lesser, lowest, members}
 use Rattle.sets.specs.Value.{width, rows}
-use Rattle.sets.proofs.Tables.{rows-store}
-use Rattle.slots.specs.Tables.{Tables, room, rootOf}
-use Rattle.slots.specs.Model.{find, halved, lowRoot, highRoot, lesser, merged, joined, placed, joinedUsed, tookPart, tookParts, touched, tookIn}
-use Rattle.slots.specs.Shows.{Level}
+use Rattle.sets.proofs.Tests.{iff, and-intro, and-left, and-right}
+use Rattle.sets.proofs.Tables.{length-store, sized-rows, sized-same}
+use Rattle.percolation.specs.Ranges.{mostSlots}
+use Rattle.percolation.specs.Steps.{enough}
+use Rattle.joining.specs.Entries.{rootOf}
+use Rattle.slots.specs.Tables.{Tables, Level, room}
+use Rattle.joining.specs.Model.{halved}
+use Rattle.slots.specs.Model.{find, lowRoot, highRoot, merged, joined, placed, joinedUsed, tookPart, tookParts, touched, tookIn}
 use Rattle.slots.proofs.Cases.{appended, counted, placed-cases, joined-cases, touched-cases}
-use Rattle.slots.proofs.Follow.{halved-length}
+use Rattle.joining.proofs.Follow.{halved-length}
 
 -- what every step keeps
 pub record Kept (T U : Tables) : Type 0 where
   pub entries : length (U .entries) ≡ length (T .entries)
-  pub sets : rows (U .sets) ≡ rows (T .sets)
-  pub smallest : rows (U .smallest) ≡ rows (T .smallest)
-  pub unions : rows (U .unions) ≡ rows (T .unions)
+  pub sets : length (U .sets) ≡ length (T .sets)
+  pub smallest : length (U .smallest) ≡ length (T .smallest)
+  pub unions : length (U .unions) ≡ length (T .unions)
   pub more : T .used ≤ U .used
   pub fits : T .used ≤ room (T .entries) → U .used ≤ room (U .entries)
 
@@ -37,31 +44,65 @@ kept-both T U W a b = record {
 
 pub kept-level : (T U : Tables) → Kept T U → Level T → Level U
 kept-level T U k l = record {
-  sets = k .sets ∙ l .sets ∙ sym (k .entries);
-  smallest = k .smallest ∙ l .smallest ∙ sym (k .entries);
-  unions = k .unions ∙ l .unions ∙ sym (k .entries);
+  sets = sized-same (U .sets) (T .sets) _ _ (k .sets) (k .entries) ∙ l .sets;
+  smallest = sized-same (U .smallest) (T .smallest) _ _ (k .smallest) (k .entries) ∙ l .smallest;
+  unions = sized-same (U .unions) (T .unions) _ _ (k .unions) (k .entries) ∙ l .unions;
 }
 
+-- such tables have a row for each entry
+module _ (T : Tables) (l : Level T) where
+  pub level-sets : rows (T .sets) ≡ length (T .entries)
+  level-sets = sized-rows (T .sets) (length (T .entries)) (l .sets)
+
+  pub level-smallest : rows (T .smallest) ≡ length (T .entries)
+  level-smallest = sized-rows (T .smallest) (length (T .entries)) (l .smallest)
+
+  pub level-unions : rows (T .unions) ≡ length (T .entries)
+  level-unions = sized-rows (T .unions) (length (T .entries)) (l .unions)
+
 -- the room is in the tables, and goes by the length
-pub room-within : (es : List ℕ) → (room es ≤ length es) × (room es ≤ 16777216)
+pub room-within : (es : List ℕ) → (room es ≤ length es) × (room es ≤ mostSlots)
 unfolding room
 room-within es = (omega arith, omega arith)
+
+-- what is enough is what there is room for
+pub enough-is : (es : List ℕ) (c : ℕ) → enough (length es) c ≡ leb c (room es)
+unfolding enough room
+enough-is es c = iff _ _ to (λ e. fro (leb-true c (room es) e))
+  where
+    to : leb c (length es) && leb c mostSlots ≡ true → leb c (room es) ≡ true
+    to e =
+        le-leb c (room es)
+        (omega (arith, leb-true c (length es) (and-left (leb c (length es)) (leb c mostSlots) e), leb-true c mostSlots (and-right (leb c (length es)) (leb c mostSlots) e)))
+
+    fro : c ≤ room es → leb c (length es) && leb c mostSlots ≡ true
+    fro h =
+        and-intro (leb c (length es)) (leb c mostSlots) (le-leb c (length es) (omega (arith, room-within es .0))) (le-leb c mostSlots (omega (arith, room-within es .1)))
+
+pub enough-room : (es : List ℕ) (c : ℕ) → c ≤ room es → enough (length es) c ≡ true
+enough-room es c h = enough-is es c ∙ le-leb c (room es) h
+
+pub enough-short : (es : List ℕ) (c : ℕ) → room es < c → enough (length es) c ≡ false
+enough-short es c h = enough-is es c ∙ lt-leb c (room es) h
+
+pub room-enough : (es : List ℕ) (c : ℕ) → enough (length es) c ≡ true → c ≤ room es
+room-enough es c e = leb-true c (room es) (sym (enough-is es c) ∙ e)
 
 pub same-room : (es fs : List ℕ) → length fs ≡ length es → room fs ≡ room es
 unfolding room
 same-room es fs e = omega arith
 
-merged-rows : (f : ℕ → ℕ → ℕ) (xs : List ℕ) (lo hi : ℕ) → rows (merged f xs lo hi) ≡ rows xs
+merged-length : (f : ℕ → ℕ → ℕ) (xs : List ℕ) (lo hi : ℕ) → length (merged f xs lo hi) ≡ length xs
 unfolding merged
-merged-rows f xs lo hi = rows-store xs lo _
+merged-length f xs lo hi = length-store xs lo _
 
 pub joined-kept : (T : Tables) (i j : ℕ) → Kept T (joined T i j)
 unfolding joined
 joined-kept T i j = record {
   entries = long;
   sets = refl;
-  smallest = merged-rows lesser (T .smallest) (lowRoot (T .entries) i j) (highRoot (T .entries) i j);
-  unions = merged-rows union (T .unions) (lowRoot (T .entries) i j) (highRoot (T .entries) i j);
+  smallest = merged-length lesser (T .smallest) (lowRoot (T .entries) i j) (highRoot (T .entries) i j);
+  unions = merged-length union (T .unions) (lowRoot (T .entries) i j) (highRoot (T .entries) i j);
   more = omega arith;
   fits = λ h. omega (arith, same-room (T .entries) (joined T i j .entries) long);
 }
@@ -75,9 +116,9 @@ joined-kept T i j = record {
 pub appended-kept : (T : Tables) (s Q : ℕ) → T .used < room (T .entries) → Kept T (appended T s Q)
 appended-kept T s Q l = record {
   entries = length-set (T .entries) (T .used) (T .used);
-  sets = rows-store (T .sets) (T .used) s;
-  smallest = rows-store (T .smallest) (T .used) Q;
-  unions = rows-store (T .unions) (T .used) Q;
+  sets = length-store (T .sets) (T .used) s;
+  smallest = length-store (T .smallest) (T .used) Q;
+  unions = length-store (T .unions) (T .used) Q;
   more = omega arith;
   fits = λ h. omega (arith, same-room (T .entries) (set (T .entries) (T .used) (T .used)) (length-set (T .entries) (T .used) (T .used)));
 }
@@ -92,8 +133,8 @@ pub counted-kept : (T : Tables) (f Q : ℕ) → Kept T (counted T f Q)
 counted-kept T f Q = record {
   entries = refl;
   sets = refl;
-  smallest = rows-store (T .smallest) (rootOf (T .entries) f) _;
-  unions = rows-store (T .unions) (rootOf (T .entries) f) _;
+  smallest = length-store (T .smallest) (rootOf (T .entries) f) _;
+  unions = length-store (T .unions) (rootOf (T .entries) f) _;
   more = omega arith;
   fits = λ h. h;
 }
@@ -122,9 +163,3 @@ took-length T Q =
 
 pub took-fits : (T : Tables) (Q : ℕ) → T .used ≤ room (T .entries) → tookIn T Q .used ≤ room (tookIn T Q .entries)
 took-fits T Q = took-length T Q .fits
-
-pub took-more : (T : Tables) (Q : ℕ) → T .used ≤ tookIn T Q .used
-took-more T Q = took-length T Q .more
-
-pub took-level : (T : Tables) (Q : ℕ) → Level T → Level (tookIn T Q)
-took-level T Q = kept-level T (tookIn T Q) (took-length T Q)

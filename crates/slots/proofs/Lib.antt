@@ -1,15 +1,5 @@
-pub mod Bearing
 pub mod Cases
-pub mod Classes
-pub mod Communal
 pub mod Finding
-pub mod Follow
-pub mod Free
-pub mod Growth
 pub mod Lengths
 pub mod Peel
-pub mod Shown
 pub mod Steps
-pub mod Taken
-pub mod Values
-pub mod Walk

@@ -1,23 +1,20 @@
 -- What the code does to the four tables, step by step, is what the model says. Assumes nothing.
 use mathlib.Core.Path.{_≡_, sym, ap, ap₂, _∙_}
 use mathlib.Core.Logic.{_⊎_}
-use mathlib.Core.Bool.{Bool, cond}
 use mathlib.Core.List.{List}
 use Prim.Native.Nat.{ℕ, _+_, _≤_, _<_, min, max}
 use native.Mathlib.Numerals.{add-one}
 use lib.ListN.{set}
-use Rattle.sets.specs.Sets.{union, out, before}
+use Rattle.sets.specs.Sets.{union, out, lesser}
 use Rattle.sets.specs.Value.{row, store}
-use Rattle.slots.specs.Tables.{Tables, tables, room, rootOf}
-use Rattle.slots.specs.Model.{find, halved, lowRoot, highRoot, lesser, merged, joined, placed, joinedUsed, tookPart, touched}
+use Rattle.joining.specs.Entries.{rootOf}
+use Rattle.slots.specs.Tables.{Tables, tables, room}
+use Rattle.joining.specs.Model.{halved}
+use Rattle.slots.specs.Model.{find, lowRoot, highRoot, merged, joined, placed, joinedUsed, tookPart, touched}
 use Rattle.slots.proofs.Cases.{placed-new, joined-both, joined-idle, touched-used}
-use Rattle.slots.proofs.Follow.{halved-root}
+use Rattle.joining.proofs.Follow.{halved-root}
 
 -- ---- joining
-
-pub lesser-is : (a b : ℕ) (t u : Bool) → t ≡ before b a → t ≡ u → cond u b a ≡ lesser a b
-unfolding lesser
-lesser-is a b t u p e = ap (λ (x : Bool). cond x b a) (sym e ∙ p)
 
 pub merged-is : (f : ℕ → ℕ → ℕ) (xs ys : List ℕ) (lo hi a b n : ℕ) → a ≡ row xs lo → b ≡ row xs hi → n ≡ f a b → ys ≡ store xs lo n → ys ≡ merged f xs lo hi
 unfolding merged

@@ -1,12 +1,14 @@
 -- Model of the code: what each step does to the four tables, on lists. What that means is proved of it (proofs/Taken.antt). Assumes nothing.
-use mathlib.Core.Bool.{true, false, cond, _&&_}
+use mathlib.Core.Bool.{true, false, _&&_}
 use mathlib.Core.List.{[], List, _∷_}
 use Prim.Native.Nat.{ℕ, zero, suc, min, max}
 use lib.Dec.{eqb, ltb}
-use lib.ListN.{getD, set}
-use Rattle.sets.specs.Sets.{union, out, lowest, before, members}
+use lib.ListN.{set}
+use Rattle.sets.specs.Sets.{union, out, lesser, lowest, members}
 use Rattle.sets.specs.Value.{width, row, store}
-use Rattle.slots.specs.Tables.{Tables, tables, room, rootOf}
+use Rattle.joining.specs.Entries.{rootOf}
+use Rattle.joining.specs.Model.{halved}
+use Rattle.slots.specs.Tables.{Tables, tables, room}
 
 -- the first of the n slots from i on that holds s, else the slot after them
 unfoldable pub findFrom : ℕ → List ℕ → ℕ → ℕ → ℕ
@@ -18,22 +20,6 @@ unfoldable pub find : List ℕ → ℕ → ℕ → ℕ
 unfolding findFrom
 find sets used s = findFrom used sets 0 s
 
--- path halving: each other slot on the way from r gets its entry's entry
-unfoldable pub halvedFrom : ℕ → List ℕ → ℕ → List ℕ
-halvedFrom zero es r = es
-halvedFrom (suc n) es r =
-    elim (ltb (getD es r r) r) [
-      | true ↦ elim (ltb (getD es (getD es r r) (getD es r r)) (getD es r r)) [
-        | true ↦ halvedFrom n (set es r (getD es (getD es r r) (getD es r r))) (getD es (getD es r r) (getD es r r))
-        | false ↦ es
-      ]
-      | false ↦ es
-    ]
-
-unfoldable pub halved : List ℕ → ℕ → List ℕ
-unfolding halvedFrom
-halved es i = halvedFrom i es i
-
 -- the lower and the higher of the roots of slots i and j
 unfoldable pub lowRoot : List ℕ → ℕ → ℕ → ℕ
 unfolding rootOf
@@ -42,11 +28,6 @@ lowRoot es i j = min (rootOf es i) (rootOf es j)
 unfoldable pub highRoot : List ℕ → ℕ → ℕ → ℕ
 unfolding rootOf
 highRoot es i j = max (rootOf es i) (rootOf es j)
-
--- the lesser of two sets
-unfoldable pub lesser : ℕ → ℕ → ℕ
-unfolding before
-lesser a b = cond (before b a) b a
 
 -- row lo becomes f of rows lo and hi
 unfoldable pub merged : (ℕ → ℕ → ℕ) → List ℕ → ℕ → ℕ → List ℕ

@@ -15,7 +15,7 @@ use Rattle.sets.specs.Lists.{all}
 use Rattle.sets.proofs.Tests.{iff, not-so, and-right, lt-or-le}
 use Rattle.percolation.specs.Ranges.{inRange}
 use Rattle.sets.specs.Sets.{has}
-use Rattle.sets.specs.Value.{row}
+use Rattle.sets.specs.Value.{width, row}
 use Rattle.percolation.specs.Links.{Link, link, linked}
 use Rattle.percolation.proofs.Families.{linked-sym}
 use Rattle.checks.specs.Neighbours.{Neighbours}
@@ -203,11 +203,11 @@ module _ (N : List (List ℕ)) (L : List Link) (a : ℕ) (x y w : List ℕ) (t :
   abbrev given : Link
   given = linkGiven N x y w
 
-  low-small : checkFields N a x y w ≡ accepted → given .low < 64
+  low-small : checkFields N a x y w ≡ accepted → given .low < width
   unfolding linkGiven
   low-small e = let k = fields-known N a x y w e in omega (arith, k .0, k .1)
 
-  high-small : checkFields N a x y w ≡ accepted → given .high < 64
+  high-small : checkFields N a x y w ≡ accepted → given .high < width
   unfolding linkGiven
   high-small e = let k = fields-known N a x y w e in omega (arith, k .0, k .1)
 

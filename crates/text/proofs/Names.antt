@@ -2,7 +2,7 @@
 use mathlib.Core.Path.{_≡_, refl, sym, ap, _∙_}
 use mathlib.Core.Bool.{Bool, true, false, not, _&&_, _||_}
 use mathlib.Core.List.{List, [], _∷_, _++_, append-assoc, append-nil}
-use Prim.Native.Nat.{ℕ, zero, suc, _+_, _*_, _-_, _<_, _≤_}
+use Prim.Native.Nat.{ℕ, zero, suc, _+_, _*_, _<_, _≤_}
 use native.Mathlib.Omega.{arith}
 use native.Mathlib.Numerals.{add-one}
 use lib.Dec.{eqb, leb, leb·zero, leb·suc-zero, leb·suc-suc}
@@ -12,6 +12,8 @@ use borrow.Author.Tests.{le-leb, lt-leb, leb-true, eq-eqb, ne-eqb, not-true}
 use Rattle.sets.specs.Lists.{all}
 use Rattle.sets.proofs.Tests.{no-and, not-so, and-left, and-right, never, or-left}
 use Rattle.percolation.specs.Ranges.{inRange}
+use Rattle.part_names.specs.Names.{visible}
+use Rattle.part_names.proofs.Form.{visible-range}
 use Rattle.words.specs.Lines.{same, blank}
 use Rattle.text.specs.Reading.{isName, padded, nameBytes, numberOf}
 use Rattle.text.specs.Model.{Held}
@@ -28,18 +30,9 @@ pub name-long : (x : List ℕ) → 8 < length x → isName x ≡ false
 unfolding isName
 name-long x h = rw (lt-leb (length x) 8 h, no-and (leb 1 (length x))) refl
 
-pub name-size : (x : List ℕ) → 1 ≤ length x → length x ≤ 8 → isName x ≡ all (inRange 33 126) (drop 0 x)
+pub name-size : (x : List ℕ) → 1 ≤ length x → length x ≤ 8 → isName x ≡ all visible (drop 0 x)
 unfolding isName
 name-size x h k = rw (le-leb 1 (length x) h, le-leb (length x) 8 k) refl
-
-pub byte-low : (b : ℕ) → b < 33 → inRange 33 126 b ≡ false
-byte-low b h = rw (lt-leb 33 b h) refl
-
-pub byte-high : (b : ℕ) → 126 < b → inRange 33 126 b ≡ false
-byte-high b h = rw (lt-leb b 126 h, no-and (leb 33 b)) refl
-
-pub byte-mid : (b : ℕ) → 33 ≤ b → b ≤ 126 → inRange 33 126 b ≡ true
-byte-mid b h k = rw (le-leb 33 b h, le-leb b 126 k) refl
 
 -- ---- padded bytes
 
@@ -88,10 +81,10 @@ noSpace x = all (λ b. not (eqb b 32)) x
 
 name-plain : (x : List ℕ) → isName x ≡ true → noSpace x ≡ true
 unfolding isName
-name-plain x e = all-sub (inRange 33 126) (λ b. not (eqb b 32)) x each (and-right (inRange 1 8 (length x)) (all (inRange 33 126) x) e)
+name-plain x e = all-sub visible (λ b. not (eqb b 32)) x each (and-right (inRange 1 8 (length x)) (all visible x) e)
   where
-    each : (b : ℕ) → inRange 33 126 b ≡ true → not (eqb b 32) ≡ true
-    each b h = let g : 33 ≤ b = leb-true 33 b (and-left (leb 33 b) _ h) in ap not (ne-eqb b 32 (λ q. omega arith))
+    each : (b : ℕ) → visible b ≡ true → not (eqb b 32) ≡ true
+    each b h = let g : 33 ≤ b = visible-range b h .0 in ap not (ne-eqb b 32 (λ q. omega arith))
 
 unblank-plain : (x : List ℕ) → all (λ b. not (blank b)) x ≡ true → noSpace x ≡ true
 unfolding blank
@@ -103,7 +96,7 @@ unblank-plain x e = all-sub (λ b. not (blank b)) (λ b. not (eqb b 32)) x each 
 pub name-fits : (x : List ℕ) → isName x ≡ true → (1 ≤ length x) × (length x ≤ 8)
 unfolding isName
 name-fits x e =
-    let h = and-left (inRange 1 8 (length x)) (all (inRange 33 126) x) e in
+    let h = and-left (inRange 1 8 (length x)) (all visible x) e in
     (leb-true 1 (length x) (and-left (leb 1 (length x)) _ h), leb-true (length x) 8 (and-right (leb 1 (length x)) _ h))
 
 swap : (a b c d : Bool) → a && c ≡ d → a && (b && c) ≡ b && d

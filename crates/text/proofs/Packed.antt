@@ -2,31 +2,35 @@
 use mathlib.Core.Path.{_≡_, refl, sym, ap, ap₂, _∙_}
 use mathlib.Core.Bool.{Bool, true, false, not, _&&_}
 use mathlib.Core.List.{List, [], _∷_, _++_, map, append-nil}
-use Prim.Native.Nat.{ℕ, zero, suc, _+_, _*_, _%_, _<_, min, max}
+use Prim.Native.Nat.{ℕ, zero, suc, _*_, _%_, _<_, min, max}
 use native.Mathlib.Omega.{arith}
 use lib.Dec.{eqb, leb, ltb}
 use lib.ListN.{length, getD, take, drop, length-map}
 use lib.Seq.{ext-getD, take-at}
 use borrow.Author.Tests.{ltb-true, lt-ltb, le-leb, eqb-false, eq-eqb, not-true}
-use Rattle.answers.specs.Verdict.{Verdict, accepted, refused, _then_, unless, inOrder}
-use Rattle.answers.proofs.Laws.{then-left, then-right, unless-passed, last-go, order-all}
+use Rattle.answers.specs.Verdict.{Verdict, accepted, refused, unless}
+use Rattle.answers.proofs.Laws.{then-left, then-right, unless-passed}
 use Rattle.sets.specs.Lists.{all, eachTwo}
 use Rattle.sets.proofs.ListLaws.{all-at, any-none, all-more, eachTwo-more, map-at}
 use Rattle.sets.proofs.Tests.{and-intro, and-left, and-right}
-use Rattle.percolation.specs.Ranges.{inRange, goodCount}
+use Rattle.percolation.specs.Ranges.{inRange, narrowCount}
 use Rattle.percolation.specs.Links.{Link, link, joins, linked}
 use Rattle.percolation.specs.Steps.{goodParts, legal}
 use Rattle.percolation.proofs.Accepted.{joins-turn}
 use Rattle.link_order.specs.Order.{LinkLists, withLinks, sortLinks}
 use Rattle.link_order.proofs.Sorted.{sort-legal, sort-length}
-use Rattle.sheet.specs.Sheet as sheet
-use Rattle.sheet.specs.Network as net
+use Rattle.part_names.specs.Names as field
+use Rattle.part_names.proofs.Form.{all-names}
+use Rattle.sheet.specs.Sheet.{listOf}
+use Rattle.sheet.specs.Answers.{holds}
+use Rattle.sheet.specs.Network.{Network, network}
 use Rattle.sheet.proofs.Lists.{listOf-length, listOf-at}
-use Rattle.sheet.proofs.Sound.{network-passes}
+use Rattle.sheet_writer.specs.Writing as net
+use Rattle.sheet_writer.proofs.Sound.{network-passes}
 use Rattle.words.specs.Lines.{Line, linesOf, lineSays, Said, silent, partSaid, linkSaid, neither}
 use Rattle.text.specs.declared.Text.{Text}
 use Rattle.text.specs.declared.Text.the-variants.{Fine}
-use Rattle.text.specs.Reading.{isName, padded, nameBytes, checkPart, moreParts, checkParts, partsAfter, partsOf, known, numberOf, isWeight, value, linkGiven, checkLink, moreLinks, checkLinks, linksAfter, textLinks, checkText, holds, textSays, textSay, TextMeets}
+use Rattle.text.specs.Reading.{isName, padded, nameBytes, checkPart, moreParts, checkParts, partsAfter, partsOf, known, numberOf, isWeight, value, linkGiven, checkLink, moreLinks, checkLinks, linksAfter, textLinks, checkText, textSays, textSay, TextMeets}
 use Rattle.text.proofs.Names.{bytes-length, bytes-at, held-name}
 use Rattle.text.proofs.Pass1.{more-named}
 use Rattle.text.proofs.LinkLaws.{linked-ends}
@@ -40,24 +44,24 @@ all-named n N (l ∷ ls) h e =
     let s = lineSays l in
     all-named n (moreParts N s) ls (more-named n N (l .place) s (then-left (checkPart n N (l .place) s) _ e) h) (then-right (checkPart n N (l .place) s) _ e)
 
-spaces-form : (n : ℕ) → sheet.spaces (padded n []) ≡ true
-unfolding sheet.spaces padded
+spaces-form : (n : ℕ) → field.spaces (padded n []) ≡ true
+unfolding field.spaces padded
 spaces-form zero = refl
 spaces-form (suc n) = spaces-form n
 
-rest-form : (n : ℕ) (x : List ℕ) → all (inRange 33 126) x ≡ true → sheet.visibleThenSpaces (padded n x) ≡ true
-unfolding sheet.visibleThenSpaces sheet.visible sheet.spaces padded all
+rest-form : (n : ℕ) (x : List ℕ) → all field.visible x ≡ true → field.visibleThenSpaces (padded n x) ≡ true
+unfolding field.visibleThenSpaces field.visible field.spaces padded all
 rest-form zero x h = refl
 rest-form (suc n) [] h = spaces-form n
-rest-form (suc n) (b ∷ x) h = rw (and-left (inRange 33 126 b) _ h) (rest-form n x (and-right (inRange 33 126 b) _ h))
+rest-form (suc n) (b ∷ x) h = rw (and-left (field.visible b) _ h) (rest-form n x (and-right (field.visible b) _ h))
 
 -- a name, padded, has the form of a sheet's name
-pub padded-form : (x : List ℕ) → isName x ≡ true → sheet.isName (padded 8 x) ≡ true
-unfolding isName all sheet.isName sheet.visible padded
+pub padded-form : (x : List ℕ) → isName x ≡ true → field.isName (padded 8 x) ≡ true
+unfolding isName all field.isName field.visible padded
 padded-form [] h = h
 padded-form (b ∷ x) h =
-    let e = and-right (inRange 1 8 (length (b ∷ x))) (all (inRange 33 126) (b ∷ x)) h in
-    and-intro (inRange 33 126 b) _ (and-left (inRange 33 126 b) _ e) (rest-form 7 x (and-right (inRange 33 126 b) _ e))
+    let e = and-right (inRange 1 8 (length (b ∷ x))) (all field.visible (b ∷ x)) h in
+    and-intro (field.visible b) _ (and-left (field.visible b) _ e) (rest-form 7 x (and-right (field.visible b) _ e))
 
 -- ---- links
 
@@ -125,24 +129,24 @@ abbrev pub sortedLinks : List ℕ → List Link
 sortedLinks text = sortLinks (textLinks text)
 
 -- its network
-abbrev pub textNetwork : List ℕ → net.Network
+abbrev pub textNetwork : List ℕ → Network
 textNetwork text =
-    net.network (nameBytes (partsOf text)) (map (λ l. l .low) (sortedLinks text)) (map (λ l. l .high) (sortedLinks text)) (map (λ l. l .weight) (sortedLinks text))
+    network (nameBytes (partsOf text)) (map (λ l. l .low) (sortedLinks text)) (map (λ l. l .high) (sortedLinks text)) (map (λ l. l .weight) (sortedLinks text))
 
 module _ (text : List ℕ) (n : ℕ) (t : LinkLists) (ok : checkText text n t ≡ accepted) where
   pub text-named : all isName (partsOf text) ≡ true
   unfolding checkText partsOf all
   text-named = all-named n [] (linesOf text) refl (then-left (checkParts n [] (linesOf text)) _ ok)
 
-  pub text-counted : goodCount (length (partsOf text)) ≡ true
+  pub text-counted : narrowCount (length (partsOf text)) ≡ true
   unfolding checkText
-  text-counted = unless-passed (goodCount (length (partsOf text))) 4 (length text) (then-left _ _ (then-right (checkParts n [] (linesOf text)) _ ok))
+  text-counted = unless-passed (narrowCount (length (partsOf text))) 4 (length text) (then-left _ _ (then-right (checkParts n [] (linesOf text)) _ ok))
 
   pub text-legal : legal (length (partsOf text)) (sortLinks (textLinks text)) ≡ true
   unfolding checkText textLinks
   text-legal =
       let g = good-lines t (partsOf text) [] (linesOf text)
-      (then-right (unless (goodCount (length (partsOf text))) 4 (length text)) _ (then-right (checkParts n [] (linesOf text)) _ ok)) (good-none (length (partsOf text))) in
+      (then-right (unless (narrowCount (length (partsOf text))) 4 (length text)) _ (then-right (checkParts n [] (linesOf text)) _ ok)) (good-none (length (partsOf text))) in
       sort-legal (length (partsOf text)) (textLinks text) (g .fit) (g .once)
 
   parts-same : net.partsOf (textNetwork text) ≡ length (partsOf text)
@@ -161,14 +165,13 @@ module _ (text : List ℕ) (n : ℕ) (t : LinkLists) (ok : checkText text n t �
       eights : eqb (length (nameBytes (partsOf text)) % 8) 0 ≡ true
       eights = eq-eqb (length (nameBytes (partsOf text)) % 8) 0 (omega (arith, bytes-length (partsOf text)))
 
-  network-names : inOrder (net.checkNameIn (textNetwork text)) (net.partsOf (textNetwork text)) ≡ accepted
-  unfolding net.checkNameIn sheet.checkName
-  network-names = order-all (net.checkNameIn (textNetwork text)) (net.partsOf (textNetwork text)) (λ q l. last-go (sheet.isName (sheet.eightAt (nameBytes (partsOf text)) (8 * q))) 5 0 (name-at q (omega (arith, parts-same))))
+  network-names : field.checkNames (net.eightIn (textNetwork text)) (λ q. 0) (net.partsOf (textNetwork text)) ≡ accepted
+  network-names = all-names (net.eightIn (textNetwork text)) (λ q. 0) (net.partsOf (textNetwork text)) (λ q l. name-at q (omega (arith, parts-same)))
     where
-      name-at : (q : ℕ) → q < length (partsOf text) → sheet.isName (sheet.eightAt (nameBytes (partsOf text)) (8 * q)) ≡ true
+      name-at : (q : ℕ) → q < length (partsOf text) → field.isName (net.eightIn (textNetwork text) q) ≡ true
       name-at q l =
-          ap (λ (b : List ℕ). sheet.isName (take 8 (drop (8 * q) b))) (sym (append-nil (nameBytes (partsOf text))))
-          ∙ ap sheet.isName (bytes-at (partsOf text) [] q l) ∙ padded-form (getD (partsOf text) q []) (held-name (partsOf text) q text-named l)
+          ap (λ (b : List ℕ). field.isName (take 8 (drop (8 * q) b))) (sym (append-nil (nameBytes (partsOf text))))
+          ∙ ap field.isName (bytes-at (partsOf text) [] q l) ∙ padded-form (getD (partsOf text) q []) (held-name (partsOf text) q text-named l)
 
   link-at : (j : ℕ) → j < length (sortedLinks text) → net.linkIn (textNetwork text) j ≡ getD (sortedLinks text) j (link 0 0 0)
   unfolding net.linkIn
@@ -178,11 +181,11 @@ module _ (text : List ℕ) (n : ℕ) (t : LinkLists) (ok : checkText text n t �
       ap₂ (λ (a b : ℕ). link a b (getD (map (λ k. k .weight) (sortedLinks text)) j 0)) (map-at (λ k. k .low) (sortedLinks text) j d 0 l) (map-at (λ k. k .high) (sortedLinks text) j d 0 l)
       ∙ ap (link (m .low) (m .high)) (map-at (λ k. k .weight) (sortedLinks text) j d 0 l)
 
-  network-links : sheet.listOf (net.linkIn (textNetwork text)) (net.linksIn (textNetwork text)) ≡ (sortedLinks text)
+  network-links : listOf (net.linkIn (textNetwork text)) (net.linksIn (textNetwork text)) ≡ (sortedLinks text)
   network-links = ext-getD (link 0 0 0) all-links (sortedLinks text) (size ∙ links-same) each
     where
       all-links : List Link
-      all-links = sheet.listOf (net.linkIn (textNetwork text)) (net.linksIn (textNetwork text))
+      all-links = listOf (net.linkIn (textNetwork text)) (net.linksIn (textNetwork text))
 
       size : length all-links ≡ net.linksIn (textNetwork text)
       size = listOf-length (net.linkIn (textNetwork text)) (net.linksIn (textNetwork text))
@@ -195,7 +198,7 @@ module _ (text : List ℕ) (n : ℕ) (t : LinkLists) (ok : checkText text n t �
   -- the writer accepts it
   pub text-network : net.checkNetwork (textNetwork text) ≡ accepted
   text-network =
-      network-passes (textNetwork text) network-shape (ap goodCount parts-same ∙ text-counted) network-names
+      network-passes (textNetwork text) network-shape (ap narrowCount parts-same ∙ text-counted) network-names
       (ap₂ (λ (p : ℕ) (L : List Link). legal p L) parts-same network-links ∙ text-legal)
 
 -- ---- what reading leaves
@@ -213,19 +216,19 @@ module _ (text names names2 : List ℕ) (t t2 : LinkLists) (r : Text) (p m : ℕ
   told : (checkText text (length names) t ≡ accepted) × (p ≡ length (partsOf text)) × (m ≡ length (textLinks text))
   told = said-fine _ text p m (ap textSays (sym fine) ∙ meets .answer)
 
-  pub left-network : net.network (take (8 * p) names2) (take m (t2 .lower)) (take m (t2 .higher)) (take m (t2 .weights)) ≡ textNetwork text
+  pub left-network : network (take (8 * p) names2) (take m (t2 .lower)) (take m (t2 .higher)) (take m (t2 .weights)) ≡ textNetwork text
   unfolding withLinks
   left-network =
       let P = partsOf text in
       let L = sortLinks (textLinks text) in
       let e = meets .links-left (told .0) in
       let h : m ≡ length L = told .2 ∙ sym (sort-length (textLinks text)) in
-      ap₂ (λ (a b : List ℕ). net.network a b (take m (t2 .higher)) (take m (t2 .weights)))
+      ap₂ (λ (a b : List ℕ). network a b (take m (t2 .higher)) (take m (t2 .weights)))
       (ap (take (8 * p)) (meets .names-left (told .0)) ∙ take-at (nameBytes P) (drop (8 * length P) names) (8 * p) (omega (arith, bytes-length P, told .1)))
       (front (t2 .lower) (t .lower) L (λ l. l .low) m (ap (λ (u : LinkLists). u .lower) e) h)
-      ∙ ap₂ (λ (a b : List ℕ). net.network (nameBytes P) (map (λ l. l .low) L) a b)
+      ∙ ap₂ (λ (a b : List ℕ). network (nameBytes P) (map (λ l. l .low) L) a b)
       (front (t2 .higher) (t .higher) L (λ l. l .high) m (ap (λ (u : LinkLists). u .higher) e) h)
       (front (t2 .weights) (t .weights) L (λ l. l .weight) m (ap (λ (u : LinkLists). u .weights) e) h)
 
-  pub left-accepted : net.checkNetwork (net.network (take (8 * p) names2) (take m (t2 .lower)) (take m (t2 .higher)) (take m (t2 .weights))) ≡ accepted
+  pub left-accepted : net.checkNetwork (network (take (8 * p) names2) (take m (t2 .lower)) (take m (t2 .higher)) (take m (t2 .weights))) ≡ accepted
   left-accepted = ap net.checkNetwork left-network ∙ text-network text (length names) t (told .0)

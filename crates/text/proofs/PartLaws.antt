@@ -3,18 +3,20 @@ use mathlib.Core.Path.{_≡_, refl, sym, ap, ap₂, _∙_, subst}
 use mathlib.Core.Bool.{true, false, not, _||_}
 use mathlib.Core.List.{List, [], _∷_, _++_, append-assoc}
 use mathlib.Core.Logic.{_⊎_, inl, inr}
-use Prim.Native.Nat.{ℕ, suc, _+_, _*_, _-_, _<_, _≤_}
+use Prim.Native.Nat.{ℕ, suc, _+_, _*_, _<_, _≤_}
 use native.Mathlib.Omega.{arith}
 use lib.Dec.{leb}
 use lib.ListN.{length, take, drop, length-append, length-drop, take-append-drop}
 use lib.Seq.{drop-drop, length-take-le}
-use borrow.Author.Tests.{le-leb, lt-leb, leb-true, ne-eqb}
+use borrow.Author.Tests.{le-leb, lt-leb, ne-eqb}
 use Rattle.answers.specs.Verdict.{accepted, refused}
 use Rattle.answers.specs.Answers.{counts}
 use Rattle.answers.proofs.Laws.{stop, go, last-stop, last-go, say-accepted, say-refused, accepted-not}
 use Rattle.sets.specs.Lists.{any, all}
-use Rattle.sets.proofs.Tests.{iff, split, and-left, and-right}
-use Rattle.percolation.specs.Ranges.{inRange, goodCount}
+use Rattle.sets.proofs.Tests.{iff, split, and-right}
+use Rattle.percolation.specs.Ranges.{inRange, narrowCount}
+use Rattle.part_names.specs.Names.{visible}
+use Rattle.part_names.proofs.Form.{visible-range}
 use Rattle.words.specs.declared.Form.{Form}
 use Rattle.words.specs.Lines.{same, blank, wordsSay, Said, silent, partSaid, linkSaid, neither, formed}
 use Rattle.text.specs.declared.Step.{Step}
@@ -27,11 +29,11 @@ use Rattle.text.proofs.Names.{bytes-more}
 -- a name has no blank
 pub name-unblank : (x : List ℕ) → isName x ≡ true → all (λ b. not (blank b)) x ≡ true
 unfolding isName blank
-name-unblank x e = all-sub (inRange 33 126) (λ b. not (blank b)) x each (and-right (inRange 1 8 (length x)) (all (inRange 33 126) x) e)
+name-unblank x e = all-sub visible (λ b. not (blank b)) x each (and-right (inRange 1 8 (length x)) (all visible x) e)
   where
-    each : (b : ℕ) → inRange 33 126 b ≡ true → not (blank b) ≡ true
+    each : (b : ℕ) → visible b ≡ true → not (blank b) ≡ true
     each b h =
-        let g : 33 ≤ b = leb-true 33 b (and-left (leb 33 b) _ h) in
+        let g : 33 ≤ b = visible-range b h .0 in
         rw (ne-eqb b 32 (λ q. omega arith), ne-eqb b 9 (λ q. omega arith), ne-eqb b 13 (λ q. omega arith)) refl
 
 -- ---- a name that was given before
@@ -65,26 +67,26 @@ module _ (n : ℕ) (N : List (List ℕ)) (a : ℕ) (x : List ℕ) where
   part-5 e = stop (isName x) 5 a _ e
 
   module _ (e : isName x ≡ true) where
-    pub part-4 : goodCount (suc (length N)) ≡ false → checkPart n N a (partSaid x) ≡ refused 4 a
+    pub part-4 : narrowCount (suc (length N)) ≡ false → checkPart n N a (partSaid x) ≡ refused 4 a
     unfolding checkPart
-    part-4 f = go (isName x) 5 a _ e ∙ stop (goodCount (suc (length N))) 4 a _ f
+    part-4 f = go (isName x) 5 a _ e ∙ stop (narrowCount (suc (length N))) 4 a _ f
 
-    module _ (f : goodCount (suc (length N)) ≡ true) where
+    module _ (f : narrowCount (suc (length N)) ≡ true) where
       pub part-102 : any (same x) N ≡ true → checkPart n N a (partSaid x) ≡ refused 102 a
       unfolding checkPart
-      part-102 g = go (isName x) 5 a _ e ∙ go (goodCount (suc (length N))) 4 a _ f ∙ stop (not (any (same x) N)) 102 a _ (ap not g)
+      part-102 g = go (isName x) 5 a _ e ∙ go (narrowCount (suc (length N))) 4 a _ f ∙ stop (not (any (same x) N)) 102 a _ (ap not g)
 
       module _ (g : any (same x) N ≡ false) where
         pub part-16 : n < 8 * suc (length N) → checkPart n N a (partSaid x) ≡ refused 16 0
         unfolding checkPart
         part-16 h =
-            go (isName x) 5 a _ e ∙ go (goodCount (suc (length N))) 4 a _ f ∙ go (not (any (same x) N)) 102 a _ (ap not g)
+            go (isName x) 5 a _ e ∙ go (narrowCount (suc (length N))) 4 a _ f ∙ go (not (any (same x) N)) 102 a _ (ap not g)
             ∙ last-stop (leb (8 * suc (length N)) n) 16 0 (lt-leb (8 * suc (length N)) n h)
 
         pub part-fine : 8 * suc (length N) ≤ n → checkPart n N a (partSaid x) ≡ accepted
         unfolding checkPart
         part-fine h =
-            go (isName x) 5 a _ e ∙ go (goodCount (suc (length N))) 4 a _ f ∙ go (not (any (same x) N)) 102 a _ (ap not g)
+            go (isName x) 5 a _ e ∙ go (narrowCount (suc (length N))) 4 a _ f ∙ go (not (any (same x) N)) 102 a _ (ap not g)
             ∙ last-go (leb (8 * suc (length N)) n) 16 0 (le-leb (8 * suc (length N)) n h)
 
 -- ---- what a line must do

@@ -14,7 +14,7 @@ use Rattle.answers.proofs.Laws.{last-go, say-accepted, say-refused, accepted-no
 use Rattle.sets.specs.Lists.{all}
 use Rattle.sets.proofs.ListLaws.{all-more}
 use Rattle.sets.proofs.Tests.{and-intro, and-right}
-use Rattle.percolation.specs.Ranges.{goodCount}
+use Rattle.percolation.specs.Ranges.{narrowCount}
 use Rattle.words.specs.Lines.{line, linesOf, words, wordsSay, Said, silent, partSaid, linkSaid, neither, leading}
 use Rattle.text.specs.declared.Step.{Step}
 use Rattle.text.specs.declared.Step.the-variants.{Count, Fault}
@@ -62,10 +62,10 @@ more-named n N a (linkSaid x y w) e h = h
 more-named n N a neither e h = h
 
 more-few : (n : ℕ) (N : List (List ℕ)) (a : ℕ) (s : Said) → checkPart n N a s ≡ accepted → length N ≤ 64 → length (moreParts N s) ≤ 64
-unfolding checkPart goodCount
+unfolding checkPart narrowCount
 more-few n N a silent e h = h
 more-few n N a (partSaid x) e h =
-    let g = unless-passed (goodCount (suc (length N))) 4 a (then-left _ _ (then-right (unless (isName x) 5 a) _ e)) in
+    let g = unless-passed (narrowCount (suc (length N))) 4 a (then-left _ _ (then-right (unless (isName x) 5 a) _ e)) in
     omega (arith, length-append N (x ∷ []), leb-true (suc (length N)) 64 (and-right (leb 1 (suc (length N))) _ g))
 more-few n N a (linkSaid x y w) e h = h
 more-few n N a neither e h = h
@@ -167,14 +167,14 @@ module _ (text names0 names : List ℕ) where
     unfolding partsAfter
     end-parts = f .parts ∙ ap (partsAfter (f .N)) (rest-end text at l) ∙ after-idle (f .N) at
 
-    end-check : checkNames text (length names0) ≡ unless (goodCount p) 4 (length text)
+    end-check : checkNames text (length names0) ≡ unless (narrowCount p) 4 (length text)
     unfolding checkNames
-    end-check = then-go _ _ end-checks ∙ ap (λ (n : ℕ). unless (goodCount n) 4 (length text)) (ap length end-parts ∙ f .count)
+    end-check = then-go _ _ end-checks ∙ ap (λ (n : ℕ). unless (narrowCount n) 4 (length text)) (ap length end-parts ∙ f .count)
 
     pub parts-empty : p ≡ 0 → PartsMeet text names0 (Fault 4 (length text)) names
-    unfolding goodCount unless
+    unfolding narrowCount unless
     parts-empty z =
-        let v : checkNames text (length names0) ≡ refused 4 (length text) = end-check ∙ ap (λ (n : ℕ). unless (goodCount n) 4 (length text)) z in
+        let v : checkNames text (length names0) ≡ refused 4 (length text) = end-check ∙ ap (λ (n : ℕ). unless (narrowCount n) 4 (length text)) z in
         record {
           answer = sym (say-refused _ _ 4 (length text) v);
           left = λ g. accepted-not 4 (length text) (sym v ∙ g);
@@ -182,10 +182,10 @@ module _ (text names0 names : List ℕ) where
         }
 
     pub parts-fine : (p ≡ 0 → ⊥) → PartsMeet text names0 (Count p) names
-    unfolding goodCount
+    unfolding narrowCount
     parts-fine z =
-        let g : goodCount p ≡ true = and-intro (leb 1 p) (leb p 64) (le-leb 1 p (positive p z)) (le-leb p 64 (f .few)) in
-        let v : checkNames text (length names0) ≡ accepted = end-check ∙ last-go (goodCount p) 4 (length text) g in
+        let g : narrowCount p ≡ true = and-intro (leb 1 p) (leb p 64) (le-leb 1 p (positive p z)) (le-leb p 64 (f .few)) in
+        let v : checkNames text (length names0) ≡ accepted = end-check ∙ last-go (narrowCount p) 4 (length text) g in
         record {
           answer = ap counts (sym (f .count) ∙ ap length (sym end-parts)) ∙ sym (say-accepted _ _ v);
           left = λ h. f .stands ∙ ap (λ (M : List (List ℕ)). withNames M names0) (sym end-parts);

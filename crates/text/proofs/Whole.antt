@@ -9,13 +9,14 @@ use borrow.Author.Tests.{leb-true}
 use Rattle.answers.specs.Verdict.{Verdict, accepted, refused, _then_}
 use Rattle.answers.proofs.Laws.{accepted-not, then-stop, then-go, then-right, unless-passed, said-count, said-refused}
 use Rattle.sets.proofs.Tests.{and-right}
-use Rattle.percolation.specs.Ranges.{goodCount}
+use Rattle.percolation.specs.Ranges.{narrowCount}
 use Rattle.link_order.specs.Order.{LinkLists}
+use Rattle.sheet.specs.Answers.{holds, faulty}
 use Rattle.words.specs.Lines.{linesOf}
 use Rattle.text.specs.declared.Step.{Step}
 use Rattle.text.specs.declared.Step.the-variants.{Count, Fault}
 use Rattle.text.specs.declared.Text.the-variants.{Fine, Faulty}
-use Rattle.text.specs.Reading.{checkText, checkLinks, checkParts, partsOf, linksAfter, textLinks, holds, faulty, textSay, TextMeets}
+use Rattle.text.specs.Reading.{checkText, checkLinks, checkParts, partsOf, linksAfter, textLinks, textSay, TextMeets}
 use Rattle.text.specs.Model.{stepSays, Held, checkNames, PartsMeet, LinksMeet}
 use Rattle.text.proofs.Pass1.{with-held, with-room}
 
@@ -60,10 +61,10 @@ module _ (text names names2 : List ℕ) (s : Step) (parts : PartsMeet text names
     text-count = sym (passed .1)
 
     pub text-room : length names2 ≡ length names → (8 * p ≤ length names2) × (p ≤ 64)
-    unfolding checkNames goodCount
+    unfolding checkNames narrowCount
     text-room k =
         let r = with-room (partsOf text) names names2 (parts .left (passed .0)) k in
-        let g = unless-passed (goodCount (length (partsOf text))) 4 (length text) (then-right (checkParts (length names) [] (linesOf text)) _ (passed .0)) in
+        let g = unless-passed (narrowCount (length (partsOf text))) 4 (length text) (then-right (checkParts (length names) [] (linesOf text)) _ (passed .0)) in
         (omega (arith, passed .1, r, k), omega (arith, passed .1, leb-true (length (partsOf text)) 64 (and-right (leb 1 (length (partsOf text))) _ g)))
 
     module _ (t t2 : LinkLists) (u : Step) (links : LinksMeet text (partsOf text) t u t2) where

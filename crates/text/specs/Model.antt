@@ -12,7 +12,7 @@ use Rattle.sets.specs.Lists.{all}
 use Rattle.sets.specs.Sets.{has}
 use Rattle.sets.specs.Value.{row}
 use Rattle.percolation.specs.Links.{Link, link}
-use Rattle.percolation.specs.Ranges.{goodCount}
+use Rattle.percolation.specs.Ranges.{narrowCount}
 use Rattle.checks.specs.Neighbours.{Neighbours}
 use Rattle.checks.specs.Model.{marked}
 use Rattle.link_order.specs.Order.{LinkLists, hasRoom, withLinks, sortLinks, putLink}
@@ -46,8 +46,8 @@ pub record PartMeets (N : List (List ℕ)) (a : ℕ) (s : Said) (names : List �
 
 -- what pass 1 tells: the faults of its lines, and 4 where no line names a part
 unfoldable pub checkNames : List ℕ → ℕ → Verdict
-unfolding checkParts partsOf linesOf goodCount unless _then_
-checkNames text n = checkParts n [] (linesOf text) then unless (goodCount (length (partsOf text))) 4 (length text)
+unfolding checkParts partsOf linesOf narrowCount unless _then_
+checkNames text n = checkParts n [] (linesOf text) then unless (narrowCount (length (partsOf text))) 4 (length text)
 
 -- what pass 1 must do
 pub record PartsMeet (text names : List ℕ) (r : Step) (names2 : List ℕ) : Type 0 where

@@ -7,9 +7,11 @@ use lib.Dec.{eqb, leb, ltb}
 use lib.ListN.{length, drop}
 use Rattle.answers.specs.Verdict.{Verdict, accepted, refused, _then_, unless}
 use Rattle.sets.specs.Lists.{any, all}
-use Rattle.percolation.specs.Ranges.{inRange, goodCount}
+use Rattle.percolation.specs.Ranges.{inRange, narrowCount}
 use Rattle.percolation.specs.Links.{Link, link, linked}
+use Rattle.part_names.specs.Names.{visible}
 use Rattle.link_order.specs.Order.{LinkLists, hasRoom, withLinks, sortLinks}
+use Rattle.sheet.specs.Answers.{SheetSaid, holds, faulty}
 use Rattle.text.specs.declared.Text.{Text}
 use Rattle.text.specs.declared.Text.the-variants.{Fine, Faulty}
 use Rattle.words.specs.Lines.{same, Line, linesOf, lineSays, Said, silent, partSaid, linkSaid, neither}
@@ -18,8 +20,8 @@ use Rattle.words.specs.Lines.{same, Line, linesOf, lineSays, Said, silent, part
 
 -- a name has 1 to 8 bytes, each visible
 unfoldable pub isName : List ℕ → Bool
-unfolding all
-isName x = inRange 1 8 (length x) && all (inRange 33 126) x
+unfolding visible all
+isName x = inRange 1 8 (length x) && all visible x
 
 -- a name in a field of n bytes, spaces behind it
 unfoldable pub padded : ℕ → List ℕ → List ℕ
@@ -34,11 +36,11 @@ nameBytes (x ∷ N) = padded 8 x ++ nameBytes N
 
 -- a line after those that name the parts N, where n bytes are lent for names
 unfoldable pub checkPart : ℕ → List (List ℕ) → ℕ → Said → Verdict
-unfolding isName goodCount any same unless _then_
+unfolding isName narrowCount any same unless _then_
 checkPart n N a silent = accepted
 checkPart n N a (partSaid x) =
     unless (isName x) 5 a
-    then unless (goodCount (suc (length N))) 4 a
+    then unless (narrowCount (suc (length N))) 4 a
     then unless (not (any (same x) N)) 102 a
     then unless (leb (8 * suc (length N)) n) 16 0
 checkPart n N a (linkSaid x y w) = accepted
@@ -137,23 +139,19 @@ textLinks text = linksAfter (partsOf text) [] (linesOf text)
 
 -- 101, 5, 4, 102, 16 line by line; 4 where no line names a part; then 103, 6, 104, 7, 9, 16 line by line. n bytes are lent for names, and the lists t
 unfoldable pub checkText : List ℕ → ℕ → LinkLists → Verdict
-unfolding checkParts partsOf checkLinks linesOf goodCount unless _then_
+unfolding checkParts partsOf checkLinks linesOf narrowCount unless _then_
 checkText text n t =
     checkParts n [] (linesOf text)
-    then unless (goodCount (length (partsOf text))) 4 (length text)
+    then unless (narrowCount (length (partsOf text))) 4 (length text)
     then checkLinks t (partsOf text) [] (linesOf text)
 
--- parts and links, or a fault
-pub data TextSaid : Type 0 where
-  holds : ℕ → ℕ → TextSaid
-  faulty : ℕ → ℕ → TextSaid
-
-abbrev pub textSays : Text → TextSaid
+-- the counts of the parts and links, or a fault
+abbrev pub textSays : Text → SheetSaid
 textSays (Fine p m) = holds p m
 textSays (Faulty n a) = faulty n a
 
 -- what is right to say where the verdict is v
-unfoldable pub textSay : Verdict → List ℕ → TextSaid
+unfoldable pub textSay : Verdict → List ℕ → SheetSaid
 unfolding partsOf textLinks
 textSay accepted text = holds (length (partsOf text)) (length (textLinks text))
 textSay (refused n a) text = faulty n a

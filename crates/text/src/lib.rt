@@ -54,11 +54,7 @@ fn is_name(name: &[u8]) -> bool
     }
     let mut i = 0;
     while i < name.len() {
-        let b = name[i];
-        if b < 33 {
-            return false;
-        }
-        if 126 < b {
+        if !part_names::is_visible(name[i]) {
             return false;
         }
         i += 1;
@@ -120,7 +116,7 @@ fn put_part(name: &[u8], place: usize, names: &mut [u8], p: usize) -> Step
     if !is_name(name) {
         return Step::Fault(5, place);
     }
-    if !checks::good_count(p + 1) {
+    if !checks::narrow_count(p + 1) {
         return Step::Fault(4, place);
     }
     if find_name(names, p, name) < p {

@@ -1,5 +1,3 @@
-use Rattle.runs.specs.Lent.{lent, left}
-use Rattle.meeting.specs.Answers.{meetingOf, checkPair, checkSequential}
 use Rattle.families_c.proofs.Meetings.{meets-shown}
 use borrow.Author.Needs.{needs}
 use Rattle.families_c.proofs.families_meeting_sequential.Statement.{statement}
@@ -11,8 +9,8 @@ from-word-requires c κs = search needs
 from-word-requires-2 : tie.Need-from-word-requires-2
 from-word-requires-2 c κs = search needs
 
-by-sequential-requires : tie.Need-by-sequential-requires
-by-sequential-requires c κs = search needs
+meet-requires : tie.Need-meet-requires
+meet-requires c κs = search needs
 
 of-meeting-requires : tie.Need-of-meeting-requires
 of-meeting-requires c κs = search needs
@@ -30,19 +28,7 @@ same-length-4 : tie.Need-same-length-4
 same-length-4 c = search needs
 
 returns : tie.Need-returns
-returns c =
-    let at = c .before .before .before .before .before .before .before .before .before in
-    let given = at .before .before .before .before .before .before .before .before .before .before .before .before .args in
-    let T = lent (given .sets .now) (given .entries .now) (given .smallest .now) (given .unions .now) in
-    meets-shown
-    (λ x y. checkSequential (given .sheet .now) (given .k) x y T)
-    (λ x y. meetingOf (given .sheet .now) (given .k) x y)
-    (λ x y. left (checkPair (given .sheet .now) (given .k) x y T) T)
-    (at .before .before .before .before .before .before .from-word .ensures)
-    (at .before .before .before .before .before .from-word2 .ensures)
-    (c .of-meeting .ensures)
-    (at .by-sequential .ensures .0)
-    (at .by-sequential .ensures .1)
+returns c = meets-shown (c .before .before .before .before .before .before .before .before .before .meet .result) (c .before .before .before .before .before .before .before .before .before .before .before .before .before .before .before .from-word .ensures) (c .before .before .before .before .before .before .before .before .before .before .before .before .before .before .from-word2 .ensures) (c .before .before .before .before .before .before .before .before .before .meet .ensures) (c .of-meeting .ensures)
 
 pub families-meeting-sequential-spec : {M : Type 1} → statement M
 families-meeting-sequential-spec =
@@ -50,7 +36,7 @@ families-meeting-sequential-spec =
     (tie.spec
     from-word-requires
     from-word-requires-2
-    by-sequential-requires
+    meet-requires
     of-meeting-requires
     same-length
     same-length-2

@@ -1,5 +1,5 @@
 use mathlib.Core.Path.{ap, _∙_}
-use Rattle.families_c.specs.Outcomes.{sheetShown}
+use Rattle.outcomes.specs.Outcomes.{sheetShown}
 use borrow.Author.Needs.{needs}
 use Rattle.families_c.proofs.families_read.Statement.{statement}
 use Rattle.families_c.proofs.families_read.Tie as tie

@@ -1,5 +1,5 @@
 use mathlib.Core.Path.{ap, _∙_}
-use Rattle.families_c.specs.Outcomes.{outcome}
+use Rattle.outcomes.specs.Outcomes.{outcome}
 use borrow.Author.Needs.{needs}
 use Rattle.families_c.proofs.families_subset_count.Statement.{statement}
 use Rattle.families_c.proofs.families_subset_count.Tie as tie

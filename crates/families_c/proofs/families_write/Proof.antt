@@ -1,5 +1,5 @@
 use mathlib.Core.Path.{ap, _∙_}
-use Rattle.families_c.specs.Outcomes.{shown}
+use Rattle.outcomes.specs.Outcomes.{shown}
 use borrow.Author.Needs.{needs}
 use Rattle.families_c.proofs.families_write.Statement.{statement}
 use Rattle.families_c.proofs.families_write.Tie as tie

@@ -3,8 +3,8 @@ use borrow.Author.Needs.{needs}
 use lib.ListN.{length}
 use Rattle.listings.specs.Model.{listed}
 use Rattle.answers.specs.Answers.{counts}
-use Rattle.answers.proofs.Laws.{say-accepted, say-refused, written-refused, written-accepted}
 use Rattle.listings.proofs.Listed.{listed-length}
+use Rattle.listings.proofs.Outputs.{writes-refused, writes-all}
 use Rattle.listings.proofs.Filling.{room-short, room-enough, room-passed}
 use Rattle.listings.proofs.list_roots.Statement.{statement}
 use Rattle.listings.proofs.list_roots.Tie as tie
@@ -23,8 +23,7 @@ returns c =
     let a = c .before .before .before .before .before .before .before .args in
     let C = listed (a .entries .now) (a .smallest .now) (a .unions .now) (a .used) in
     let n = c .before .before .roots .ensures ∙ sym (listed-length (a .entries .now) (a .smallest .now) (a .unions .now) (a .used)) in
-    let e = room-short C _ _ (length (a .out .now)) n (c .before .community-length .ensures) (c .if1 .taken) in
-    (sym (say-refused _ _ _ _ e), sym (written-refused _ _ _ _ _ e))
+    writes-refused _ _ _ _ _ 16 0 (room-short C _ _ (length (a .out .now)) n (c .before .community-length .ensures) (c .if1 .taken)) refl
 
 put-roots-requires : tie.Need-put-roots-requires
 put-roots-requires c κs =
@@ -40,10 +39,7 @@ returns-2 c =
     let a = c .before .before .before .before .before .before .before .before .before .before .before .args in
     let C = listed (a .entries .now) (a .smallest .now) (a .unions .now) (a .used) in
     let n = c .before .before .before .before .before .before .roots .ensures ∙ sym (listed-length (a .entries .now) (a .smallest .now) (a .unions .now) (a .used)) in
-    let e = room-passed C _ _ (length (a .out .now)) n (c .before .before .before .before .before .community-length .ensures) (c .before .before .before .before .if1 .left) in (
-      ap counts n ∙ sym (say-accepted _ _ e),
-      c .before .before .put-roots .ensures ∙ written-accepted _ _ _ refl ∙ sym (written-accepted _ _ _ e),
-    )
+    writes-all _ _ _ (a .out .now) _ _ (room-passed C _ _ (length (a .out .now)) n (c .before .before .before .before .before .community-length .ensures) (c .before .before .before .before .if1 .left)) (ap counts n) (c .before .before .put-roots .ensures)
 
 pub list-roots-spec : {M : Type 1} → statement M
 list-roots-spec =

@@ -1,28 +1,56 @@
+use mathlib.Core.Path.{ap}
+use Prim.Native.Nat.{ℕ, _+_, _*_}
+use native.Mathlib.Omega.{arith}
 use borrow.Author.Needs.{needs}
 use Rattle.sets.specs.Value.{num}
 use Rattle.listings.proofs.Places.{put-whole}
 use Rattle.listings.proofs.put.Statement.{statement}
 use Rattle.listings.proofs.put.Tie as tie
 
-position-requires : tie.Need-position-requires
-position-requires c κs = search needs
+community-length-requires : tie.Need-community-length-requires
+community-length-requires c κs = search needs
 
-shift-requires : tie.Need-shift-requires
-shift-requires c κs = search needs
+gap-requires : tie.Need-gap-requires
+gap-requires c κs =
+    let a = c .before .before .before .args in
+    let e = c .before .community-length .ensures in
+    (omega arith, omega (arith, e, ap (λ (k : ℕ). a .n * k) e), omega arith)
 
-put-community-requires : tie.Need-put-community-requires
-put-community-requires c κs = search needs
+put-bytes-requires : tie.Need-put-bytes-requires
+put-bytes-requires c κs = search needs
+
+byte-count-requires : tie.Need-byte-count-requires
+byte-count-requires c κs = search needs
+
+add-put-bytes : tie.Need-add-put-bytes
+add-put-bytes c = search needs
+
+put-bytes-requires-2 : tie.Need-put-bytes-requires-2
+put-bytes-requires-2 c κs = search needs
 
 same-length : tie.Need-same-length
 same-length c = search needs
 
 returns : tie.Need-returns
 returns c =
-    let a = c .before .before .before .before .before .before .before .before .before .before .before .args in
-    let p = c .before .before .before .before .before .before .before .before .position in
-    put-whole (a .out .now) _ _ (a .n) (p .result) (num (a .small)) (num (a .whole)) (p .ensures .0) (p .ensures .1) (c .before .before .before .before .before .before .shift .ensures) (c .before .before .put-community .ensures)
+    let a = c .before .before .before .before .before .before .before .before .before .before .before .before .before .before .before .args in
+    let g = c .before .before .before .before .before .before .before .before .before .before .before .gap in
+    put-whole (a .out .now) _ _ _ (a .n) _ (g .result) _ (num (a .small)) (num (a .whole))
+    (c .before .before .before .before .before .before .before .before .before .before .before .before .before .community-length .ensures)
+    (ap (λ (k : ℕ). g .result + k) (c .before .before .before .byte-count .ensures))
+    (g .ensures)
+    (c .before .before .before .before .before .before .before .put-bytes .ensures)
+    (c .before .before .put-bytes2 .ensures)
 
 pub put-spec : {M : Type 1} → statement M
 put-spec =
     tie.close
-    (tie.spec position-requires shift-requires put-community-requires same-length returns)
+    (tie.spec
+    community-length-requires
+    gap-requires
+    put-bytes-requires
+    byte-count-requires
+    add-put-bytes
+    put-bytes-requires-2
+    same-length
+    returns)

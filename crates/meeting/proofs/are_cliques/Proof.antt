@@ -1,7 +1,7 @@
 use mathlib.Core.Path.{sym, _∙_}
 use borrow.Author.Tests.{not-true, not-false}
 use Rattle.sets.proofs.Tests.{and-stop, and-go}
-use Rattle.meeting.proofs.Cliques13.{sheet-near, sheet-clique}
+use Rattle.meeting.proofs.Pairs.{sheet-clique}
 use borrow.Author.Needs.{needs}
 use Rattle.meeting.proofs.are_cliques.Statement.{statement}
 use Rattle.meeting.proofs.are_cliques.Tie as tie
@@ -20,7 +20,7 @@ returns c =
     let r = c .before .before .before in
     let a = r .before .before in
     let t = c .before .is-clique in
-    and-stop _ _ (sym (sheet-clique _ (a .pre .0) _ _ _ _ _ (a .pre .1) (sheet-near _ (a .pre .0) _ _ (a .pre .2) (r .rows-of .ensures)) (t .ensures)) ∙ not-true (t .result) (c .if1 .taken))
+    and-stop _ _ (sym (sheet-clique (a .args .sheet .now) (a .pre .0) (a .args .m) (a .pre .2) _ (r .rows-of .ensures) _ _ _ _ (a .pre .1) (t .ensures)) ∙ not-true (t .result) (c .if1 .taken))
 
 slice-aggregate-is-clique-2 : tie.Need-slice-aggregate-is-clique-2
 slice-aggregate-is-clique-2 c = search needs
@@ -33,8 +33,8 @@ returns-2 c =
     let t = c .before .before .before in
     let r = t .before .before in
     let a = r .before .before in
-    and-go _ _ (sym (sheet-clique _ (a .pre .0) _ _ _ _ _ (a .pre .1) (sheet-near _ (a .pre .0) _ _ (a .pre .2) (r .rows-of .ensures)) (t .is-clique .ensures)) ∙ not-false (t .is-clique .result) (c .before .before .if1 .left))
-    (sheet-clique _ (a .pre .0) _ _ _ _ _ (a .pre .1) (sheet-near _ (a .pre .0) _ _ (a .pre .2) (r .rows-of .ensures)) (c .is-clique2 .ensures))
+    and-go _ _ (sym (sheet-clique (a .args .sheet .now) (a .pre .0) (a .args .m) (a .pre .2) _ (r .rows-of .ensures) _ _ _ _ (a .pre .1) (t .is-clique .ensures)) ∙ not-false (t .is-clique .result) (c .before .before .if1 .left))
+    (sheet-clique (a .args .sheet .now) (a .pre .0) (a .args .m) (a .pre .2) _ (r .rows-of .ensures) _ _ _ _ (a .pre .1) (c .is-clique2 .ensures))
 
 pub are-cliques-spec : {M : Type 1} → statement M
 are-cliques-spec =

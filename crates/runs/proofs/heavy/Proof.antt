@@ -4,9 +4,10 @@ use Prim.Native.Nat.{_≤_, _-_}
 use lib.ListN.{take}
 use Rattle.percolation.specs.Links.{Link}
 use Rattle.sheet.specs.Sheet.{linksOf}
-use Rattle.sheet.proofs.Sound.{sheet-length}
+use Rattle.sheet.proofs.Sound.{sheet-length, sheet-legal}
 use Rattle.runs.proofs.Falling.{AllHeavy, none-heavy}
-use Rattle.runs.proofs.InSheet.{weighs-more, weighs-less, weighs-all}
+use Rattle.runs.proofs.InSheet.{sheet-given}
+use Rattle.runs.proofs.LinkList.{weighs-more, weighs-less, weighs-all}
 use Rattle.runs.proofs.heavy.Statement.{statement}
 use Rattle.runs.proofs.heavy.Tie as tie
 
@@ -25,7 +26,7 @@ link-requires c κs = (sheet-length _ (c .before .before .before .pre .0), omega
 returns : tie.Need-returns Inv-loop μ-loop
 returns c =
     let w = ap (λ (l : Link). l .weight) (c .before .before .link .ensures .0) in
-    (weighs-less _ (c .before .before .before .before .before .before .pre .0) _ (c .before .before .before .before .loop .j) (omega (arith, c .before .before .before .loop-test .taken, c .before .before .before .before .before .before .pre .1)) (c .before .before .before .before .loop .inv .1) (omega (arith, w, c .if1 .taken)), omega arith)
+    (weighs-less _ _ _ (sheet-given _) _ (sheet-legal _ (c .before .before .before .before .before .before .pre .0)) _ (c .before .before .before .before .loop .j) (omega (arith, c .before .before .before .loop-test .taken, c .before .before .before .before .before .before .pre .1)) (c .before .before .before .before .loop .inv .1) (omega (arith, w, c .if1 .taken)), omega arith)
 
 add-j : tie.Need-add-j Inv-loop μ-loop
 add-j c = omega arith
@@ -36,10 +37,10 @@ loop-less c = omega arith
 loop-again : tie.Need-loop-again Inv-loop μ-loop
 loop-again c =
     let w = ap (λ (l : Link). l .weight) (c .before .before .link .ensures .0) in
-    (omega arith, weighs-more (c .before .before .before .before .before .before .args .sheet .now) _ (c .before .before .before .before .loop .j) (omega (arith, c .before .before .before .loop-test .taken, c .before .before .before .before .before .before .pre .1)) (c .before .before .before .before .loop .inv .1) (omega (arith, w, c .if1 .left)))
+    (omega arith, weighs-more _ _ _ (sheet-given (c .before .before .before .before .before .before .args .sheet .now)) _ (c .before .before .before .before .loop .j) (omega (arith, c .before .before .before .loop-test .taken, c .before .before .before .before .before .before .pre .1)) (c .before .before .before .before .loop .inv .1) (omega (arith, w, c .if1 .left)))
 
 returns-2 : tie.Need-returns-2 Inv-loop μ-loop
-returns-2 c = (weighs-all _ (c .before .before .before .pre .0) _ (c .before .loop .j) (omega (arith, c .before .before .before .pre .1)) (c .before .loop .inv .1), omega arith)
+returns-2 c = (weighs-all _ _ _ (sheet-given _) _ (sheet-legal _ (c .before .before .before .pre .0)) _ (c .before .loop .j) (omega (arith, c .before .before .before .pre .1)) (c .before .loop .inv .1), omega arith)
 
 pub heavy-spec : {M : Type 1} → statement M
 heavy-spec =

@@ -9,7 +9,8 @@ use Rattle.sets.proofs.Tables.{length-none}
 use Rattle.sheet.specs.Sheet.{linksOf}
 use Rattle.sheet.proofs.Sound.{sheet-length}
 use Rattle.runs.specs.Model.{rowsWith}
-use Rattle.runs.proofs.InSheet.{rows-next, rows-end}
+use Rattle.runs.proofs.InSheet.{sheet-given}
+use Rattle.runs.proofs.LinkList.{rows-next, rows-end}
 use Rattle.runs.proofs.rows_of.Statement.{statement}
 use Rattle.runs.proofs.rows_of.Tie as tie
 
@@ -48,12 +49,12 @@ loop-again c =
     let a = c .before .before .before .before .before .before .before .before .args in
     let l = c .before .before .before .before .before .loop in (
       omega arith,
-      rows-next (a .sheet .now) (a .n) (c .before .before .before .before .before .before .before .before .pre .1) (l .rows) _ (l .j) _ (c .before .before .before .before .loop-test .taken) (c .before .before .before .link .ensures .0) (c .before .add-link .ensures) ∙ l .inv .1,
+      rows-next _ _ _ (sheet-given (a .sheet .now)) (a .n) (c .before .before .before .before .before .before .before .before .pre .1) (l .rows) _ (l .j) _ (c .before .before .before .before .loop-test .taken) (c .before .before .before .link .ensures .0) (c .before .add-link .ensures) ∙ l .inv .1,
       c .before .add-link .kept .0 ∙ l .inv .2,
     )
 
 returns : tie.Need-returns Inv-loop μ-loop
-returns c = rows-end _ _ (c .before .before .before .before .pre .1) _ (c .before .loop .j) (omega arith) ∙ c .before .loop .inv .1
+returns c = rows-end _ _ _ (sheet-given _) _ (c .before .before .before .before .pre .1) _ (c .before .loop .j) (omega arith) ∙ c .before .loop .inv .1
 
 pub rows-of-spec : {M : Type 1} → statement M
 rows-of-spec =

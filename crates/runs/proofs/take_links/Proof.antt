@@ -7,7 +7,8 @@ use Rattle.slots.specs.Tables.{tables, room}
 use Rattle.sheet.specs.Sheet.{linksOf}
 use Rattle.sheet.proofs.Sound.{sheet-length}
 use Rattle.runs.specs.Model.{rowsWith, tookLinks}
-use Rattle.runs.proofs.InSheet.{link-ends, rows-next, rows-end, tables-next, tables-end}
+use Rattle.runs.proofs.InSheet.{sheet-given, link-ends}
+use Rattle.runs.proofs.LinkList.{rows-next, rows-end, tables-next, tables-end}
 use Rattle.runs.proofs.take_links.Statement.{statement}
 use Rattle.runs.proofs.take_links.Tie as tie
 
@@ -48,8 +49,8 @@ loop-again c =
     let e = c .before .before .before .before .before .before .before .before .before .before .before .before .before .before .before .before .link .ensures .0 in (
       omega (arith, c .before .before .before .before .before .before .before .before .before .before .before .before .before .before .before .before .before .loop-test .taken),
       t .ensures .1 .1,
-      rows-next (a .sheet .now) (a .to) (c .before .before .before .before .before .before .before .before .before .before .before .before .before .before .before .before .before .before .before .before .before .before .before .before .before .pre .2) (l .rows) _ (l .j) _ (c .before .before .before .before .before .before .before .before .before .before .before .before .before .before .before .before .before .loop-test .taken) e (t .ensures .1 .0) ∙ l .inv .2,
-      tables-next (a .sheet .now) (a .to) (c .before .before .before .before .before .before .before .before .before .before .before .before .before .before .before .before .before .before .before .before .before .before .before .before .before .pre .2) (a .k) (l .rows) _ _ _ (l .j) _ (c .before .before .before .before .before .before .before .before .before .before .before .before .before .before .before .before .before .loop-test .taken) e (t .ensures .1 .0) (t .ensures .0) ∙ l .inv .3,
+      rows-next _ _ _ (sheet-given (a .sheet .now)) (a .to) (c .before .before .before .before .before .before .before .before .before .before .before .before .before .before .before .before .before .before .before .before .before .before .before .before .before .pre .2) (l .rows) _ (l .j) _ (c .before .before .before .before .before .before .before .before .before .before .before .before .before .before .before .before .before .loop-test .taken) e (t .ensures .1 .0) ∙ l .inv .2,
+      tables-next _ _ _ (sheet-given (a .sheet .now)) (a .to) (c .before .before .before .before .before .before .before .before .before .before .before .before .before .before .before .before .before .before .before .before .before .before .before .before .before .pre .2) (a .k) (l .rows) _ _ _ (l .j) _ (c .before .before .before .before .before .before .before .before .before .before .before .before .before .before .before .before .before .loop-test .taken) e (t .ensures .1 .0) (t .ensures .0) ∙ l .inv .3,
       t .kept .0 ∙ l .inv .4,
       t .kept .1 .0 ∙ l .inv .5,
       t .kept .1 .1 .0 ∙ l .inv .6,
@@ -77,7 +78,7 @@ returns c =
     let a = c .before .before .before .before .before .before .before .before .args in
     let l = c .before .loop in
     let e : l .j ≡ a .to = omega (arith, c .loop-test .left, l .inv .0) in
-    (tables-end (a .sheet .now) (a .to) (c .before .before .before .before .before .before .before .before .pre .2) (a .k) (l .rows) _ (l .j) e ∙ l .inv .3, (rows-end (a .sheet .now) (a .to) (c .before .before .before .before .before .before .before .before .pre .2) (l .rows) (l .j) e ∙ l .inv .2, l .inv .1))
+    (tables-end _ _ _ (sheet-given (a .sheet .now)) (a .to) (c .before .before .before .before .before .before .before .before .pre .2) (a .k) (l .rows) _ (l .j) e ∙ l .inv .3, (rows-end _ _ _ (sheet-given (a .sheet .now)) (a .to) (c .before .before .before .before .before .before .before .before .pre .2) (l .rows) (l .j) e ∙ l .inv .2, l .inv .1))
 
 pub take-links-spec : {M : Type 1} → statement M
 take-links-spec =

@@ -17,7 +17,7 @@ same-length : tie.Need-same-length
 same-length c = search needs
 
 returns-2 : tie.Need-returns-2
-returns-2 c = listed-meets _ _ _ _ _ (sym (c .before .before .before .before .before .state-number .ensures) ∙ c .before .before .before .before .if1 .left) (c .before .before .list-roots .ensures .0) (c .before .before .list-roots .ensures .1)
+returns-2 c = listed-meets _ _ _ _ _ (sym (c .before .before .before .before .before .state-number .ensures) ∙ c .before .before .before .before .if1 .left) (c .before .before .list-roots .ensures)
 
 pub listing-now-spec : {M : Type 1} → statement M
 listing-now-spec =

@@ -1,10 +1,9 @@
-use mathlib.Core.Path.{refl, sym, ap, _∙_}
+use mathlib.Core.Path.{sym, ap, _∙_}
 use native.Mathlib.Omega.{arith}
 use borrow.Author.Needs.{needs}
-use Prim.Native.Nat.{_-_}
 use borrow.Author.Tests.{lt-ltb, le-ltb}
 use lib.Dec.{ltb}
-use Rattle.percolation.proofs.Ranges.{good-count}
+use Rattle.percolation.proofs.Ranges.{narrow-count}
 use Rattle.sheet.specs.Answers.{sheetSays}
 use Rattle.sheet.proofs.Sound.{sheet-count}
 use Rattle.sheet.proofs.Said.{said-faulty, said-holds, part-faulty, part-found, part-missing}
@@ -20,19 +19,18 @@ enum-known-n c = search needs
 enum-known-p : tie.Need-enum-known-p
 enum-known-p c = search needs
 
-mul-t11 : tie.Need-mul-t11
-mul-t11 c = let f = said-holds _ _ _ _ (sym (ap sheetSays (c .before .before .p .given .1)) ∙ c .before .before .before .before .check .ensures) in omega (arith, good-count _ (sheet-count _ (f .0)) .1, f .1, c .if1 .taken)
-
-add-t12 : tie.Need-add-t12
-add-t12 c = let f = said-holds _ _ _ _ (sym (ap sheetSays (c .before .before .p .given .1)) ∙ c .before .before .before .before .check .ensures) in omega (arith, good-count _ (sheet-count _ (f .0)) .1, f .1, c .if1 .taken)
+name-at-requires : tie.Need-name-at-requires
+name-at-requires c κs =
+    let f = said-holds _ _ _ _ (sym (ap sheetSays (c .before .before .p .given .1)) ∙ c .before .before .before .before .check .ensures) in
+    omega (arith, narrow-count _ (sheet-count _ (f .0)) .1, f .1, c .if1 .taken)
 
 returns : tie.Need-returns
 returns c = part-faulty _ _ _ _ (said-faulty _ _ _ _ (sym (ap sheetSays (c .before .n .given .1)) ∙ c .before .before .before .check .ensures))
 
 returns-2 : tie.Need-returns-2
 returns-2 c =
-    let f = said-holds _ _ _ _ (sym (ap sheetSays (c .before .before .p .given .1)) ∙ c .before .before .before .before .check .ensures) in
-    part-found _ _ _ (f .0) (ap (ltb (c .before .before .before .before .before .before .args .part)) (sym (f .1)) ∙ lt-ltb _ _ (c .if1 .taken)) refl
+    let f = said-holds _ _ _ _ (sym (ap sheetSays (c .before .before .before .p .given .1)) ∙ c .before .before .before .before .before .check .ensures) in
+    part-found _ _ _ (f .0) (ap (ltb (c .before .before .before .before .before .before .before .args .part)) (sym (f .1)) ∙ lt-ltb _ _ (c .before .if1 .taken)) (c .name-at .ensures .0)
 
 returns-3 : tie.Need-returns-3
 returns-3 c =
@@ -42,4 +40,4 @@ returns-3 c =
 pub find-name-spec : {M : Type 1} → statement M
 find-name-spec =
     tie.close
-    (tie.spec check-requires enum-known-n enum-known-p mul-t11 add-t12 returns returns-2 returns-3)
+    (tie.spec check-requires enum-known-n enum-known-p name-at-requires returns returns-2 returns-3)

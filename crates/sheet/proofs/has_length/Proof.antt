@@ -1,44 +1,37 @@
-use borrow.Author.Tests.{le-leb, lt-leb}
-use Rattle.sheet.specs.Sheet.{hasLength}
 use borrow.Author.Needs.{needs}
+use mathlib.Core.Path.{ap, _∙_}
+use borrow.Author.Tests.{le-leb, lt-leb}
+use lib.Dec.{eqb}
+use lib.ListN.{length}
+use Prim.Native.Nat.{_<_, _≤_}
+use Rattle.sets.proofs.Tests.{and-stop, and-go}
+use Rattle.sheet.specs.Sheet.{headLength, linkAt, hasLength}
+use native.Mathlib.Omega.{arith}
 use Rattle.sheet.proofs.has_length.Statement.{statement}
 use Rattle.sheet.proofs.has_length.Tie as tie
 
+head-length-requires : tie.Need-head-length-requires
+head-length-requires c κs = search needs
+
 returns : tie.Need-returns
 unfolding hasLength
-returns c = simp (lt-leb _ _ (c .if1 .taken))
+returns c = let l : length (c .before .before .before .args .s .now) < headLength = omega (arith, c .if1 .taken, c .before .head-length .ensures) in and-stop _ _ (lt-leb _ _ l)
 
-byte-at-requires : tie.Need-byte-at-requires
-byte-at-requires c κs = search needs
+link-count-requires : tie.Need-link-count-requires
+link-count-requires c κs = search needs
 
-word-at-requires : tie.Need-word-at-requires
-word-at-requires c κs = search needs
-
-mul-result : tie.Need-mul-result
-mul-result c = search needs
-
-add-result : tie.Need-add-result
-add-result c = search needs
-
-mul-result-2 : tie.Need-mul-result-2
-mul-result-2 c = search needs
-
-add-result-2 : tie.Need-add-result-2
-add-result-2 c = search needs
+link-at-requires : tie.Need-link-at-requires
+link-at-requires c κs = search needs
 
 returns-2 : tie.Need-returns-2
 unfolding hasLength
-returns-2 c = simp (le-leb _ _ (c .before .before .if1 .left), c .word-at .ensures .0, c .before .byte-at .ensures .0)
+returns-2 c =
+    let s = c .before .before .before .before .before .args .s .now in
+    let l : headLength ≤ length s = omega (arith, c .before .before .if1 .left, c .before .before .before .head-length .ensures) in
+    and-go _ _ (le-leb _ _ l)
+    (ap (eqb (length s)) (c .link-at .ensures .0 ∙ ap (linkAt s) (c .before .link-count .ensures .0)))
 
 pub has-length-spec : {M : Type 1} → statement M
 has-length-spec =
     tie.close
-    (tie.spec
-    returns
-    byte-at-requires
-    word-at-requires
-    mul-result
-    add-result
-    mul-result-2
-    add-result-2
-    returns-2)
+    (tie.spec head-length-requires returns link-count-requires link-at-requires returns-2)

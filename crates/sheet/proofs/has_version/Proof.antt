@@ -8,12 +8,12 @@ returns : tie.Need-returns
 unfolding hasVersion
 returns c = simp (lt-leb _ _ (c .if1 .taken))
 
-word-at-requires : tie.Need-word-at-requires
-word-at-requires c κs = search needs
+two-at-requires : tie.Need-two-at-requires
+two-at-requires c κs = search needs
 
 returns-2 : tie.Need-returns-2
 unfolding hasVersion
-returns-2 c = simp (le-leb _ _ (c .before .if1 .left), c .word-at .ensures .0)
+returns-2 c = simp (le-leb _ _ (c .before .if1 .left), c .two-at .ensures .0)
 
 pub has-version-spec : {M : Type 1} → statement M
-has-version-spec = tie.close (tie.spec returns word-at-requires returns-2)
+has-version-spec = tie.close (tie.spec returns two-at-requires returns-2)

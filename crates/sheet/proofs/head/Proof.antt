@@ -1,6 +1,6 @@
 use mathlib.Core.Path.{sym, ap, _∙_}
 use Rattle.answers.proofs.Laws.{stop, go, last-stop, last-go}
-use Rattle.percolation.specs.Ranges.{goodCount}
+use Rattle.percolation.specs.Ranges.{narrowCount}
 use borrow.Author.Tests.{not-true, not-false}
 use Rattle.sheet.specs.Sheet.{checkHead}
 use borrow.Author.Needs.{needs}
@@ -29,11 +29,11 @@ unfolding checkHead
 returns-3 c =
     sym (go _ _ _ _ (sym (c .before .before .before .before .before .has-mark .ensures) ∙ not-false _ (c .before .before .before .before .if1 .left)) ∙ go _ _ _ _ (sym (c .before .before .before .has-version .ensures) ∙ not-false _ (c .before .before .if2 .left)) ∙ stop _ _ _ _ (sym (c .before .has-length .ensures) ∙ not-true _ (c .if3 .taken)))
 
-byte-at-requires : tie.Need-byte-at-requires
-byte-at-requires c κs = search needs
+part-count-requires : tie.Need-part-count-requires
+part-count-requires c κs = search needs
 
-good-count-requires : tie.Need-good-count-requires
-good-count-requires c κs = search needs
+narrow-count-requires : tie.Need-narrow-count-requires
+narrow-count-requires c κs = search needs
 
 returns-4 : tie.Need-returns-4
 unfolding checkHead
@@ -41,7 +41,7 @@ returns-4 c =
     sym (go _ _ _ _ (sym (c .before .before .before .before .before .before .before .before .has-mark .ensures) ∙ not-false _ (c .before .before .before .before .before .before .before .if1 .left))
     ∙ go _ _ _ _ (sym (c .before .before .before .before .before .before .has-version .ensures) ∙ not-false _ (c .before .before .before .before .before .if2 .left))
     ∙ go _ _ _ _ (sym (c .before .before .before .before .has-length .ensures) ∙ not-false _ (c .before .before .before .if3 .left))
-    ∙ last-stop _ _ _ (sym (c .before .good-count .ensures ∙ ap goodCount (c .before .before .byte-at .ensures .0)) ∙ not-true _ (c .if4 .taken)))
+    ∙ last-stop _ _ _ (sym (c .before .narrow-count .ensures ∙ ap narrowCount (c .before .before .part-count .ensures .0)) ∙ not-true _ (c .if4 .taken)))
 
 returns-5 : tie.Need-returns-5
 unfolding checkHead
@@ -49,7 +49,7 @@ returns-5 c =
     sym (go _ _ _ _ (sym (c .before .before .before .before .before .before .before .before .has-mark .ensures) ∙ not-false _ (c .before .before .before .before .before .before .before .if1 .left))
     ∙ go _ _ _ _ (sym (c .before .before .before .before .before .before .has-version .ensures) ∙ not-false _ (c .before .before .before .before .before .if2 .left))
     ∙ go _ _ _ _ (sym (c .before .before .before .before .has-length .ensures) ∙ not-false _ (c .before .before .before .if3 .left))
-    ∙ last-go _ _ _ (sym (c .before .good-count .ensures ∙ ap goodCount (c .before .before .byte-at .ensures .0)) ∙ not-false _ (c .if4 .left)))
+    ∙ last-go _ _ _ (sym (c .before .narrow-count .ensures ∙ ap narrowCount (c .before .before .part-count .ensures .0)) ∙ not-false _ (c .if4 .left)))
 
 pub head-spec : {M : Type 1} → statement M
 head-spec =
@@ -61,7 +61,7 @@ head-spec =
     returns-2
     has-length-requires
     returns-3
-    byte-at-requires
-    good-count-requires
+    part-count-requires
+    narrow-count-requires
     returns-4
     returns-5)

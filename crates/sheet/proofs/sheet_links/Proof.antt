@@ -2,7 +2,7 @@ use mathlib.Core.Path.{_≡_, sym, ap, _∙_, subst⁻¹}
 use native.Mathlib.Omega.{arith}
 use borrow.Author.Needs.{needs}
 use mathlib.Core.List.{List}
-use Prim.Native.Nat.{ℕ, _+_, _*_, _≤_, _-_}
+use Prim.Native.Nat.{ℕ, _+_, _≤_, _-_}
 use lib.ListN.{length}
 use Rattle.sets.specs.Value.{noRows}
 use Rattle.sets.proofs.Tables.{length-none}
@@ -36,29 +36,20 @@ slice-aggregate-link-number c = sym (c .before .before .before .loop .inv .2 ∙
 link-number-requires : tie.Need-link-number-requires Inv-loop μ-loop
 link-number-requires c κs = search needs
 
-mul-t13 : tie.Need-mul-t13 Inv-loop μ-loop
-mul-t13 c = omega (arith, c .before .before .before .before .before .before .before .shared-slice-known .given 6, c .before .before .before .before .before .before .before .shared-slice-known .given 7, c .before .before .before .before .loop-test .taken, c .before .before .before .before .before .before .before .before .pre .1 .1 .0, c .before .before .before .before .before .before .before .before .pre .1 .0, c .before .before .before .before .before .before .before .before .pre .1 .1 .1)
-
-add-t14 : tie.Need-add-t14 Inv-loop μ-loop
-add-t14 c = omega (arith, c .before .before .before .before .before .before .before .shared-slice-known .given 6, c .before .before .before .before .before .before .before .shared-slice-known .given 7, c .before .before .before .before .loop-test .taken, c .before .before .before .before .before .before .before .before .pre .1 .1 .0, c .before .before .before .before .before .before .before .before .pre .1 .0, c .before .before .before .before .before .before .before .before .pre .1 .1 .1)
-
-mul-t15 : tie.Need-mul-t15 Inv-loop μ-loop
-mul-t15 c = omega (arith, c .before .before .before .before .before .before .before .shared-slice-known .given 6, c .before .before .before .before .before .before .before .shared-slice-known .given 7, c .before .before .before .before .loop-test .taken, c .before .before .before .before .before .before .before .before .pre .1 .1 .0, c .before .before .before .before .before .before .before .before .pre .1 .0, c .before .before .before .before .before .before .before .before .pre .1 .1 .1)
-
-add-t16 : tie.Need-add-t16 Inv-loop μ-loop
-add-t16 c = omega (arith, c .before .before .before .before .before .before .before .shared-slice-known .given 6, c .before .before .before .before .before .before .before .shared-slice-known .given 7, c .before .before .before .before .loop-test .taken, c .before .before .before .before .before .before .before .before .pre .1 .1 .0, c .before .before .before .before .before .before .before .before .pre .1 .0, c .before .before .before .before .before .before .before .before .pre .1 .1 .1)
+link-at-requires : tie.Need-link-at-requires Inv-loop μ-loop
+link-at-requires c κs = omega (arith, c .before .before .before .before .before .before .before .shared-slice-known .given 6, c .before .before .before .before .before .before .before .shared-slice-known .given 7, c .before .before .before .before .loop-test .taken, c .before .before .before .before .before .before .before .before .pre .1 .1 .0)
 
 returns : tie.Need-returns Inv-loop μ-loop
 unfolding checkLinkAt
 returns c =
-    let a = c .before .before .before .before .before .before .before .before .args in
-    let l = c .before .before .before .before .before .loop in
+    let a = c .before .before .before .before .before .before .before .before .before .args in
+    let l = c .before .before .before .before .before .before .loop in
     let s = a .s .now in
-    let e = c .before .before .before .before .before .before .before .before .pre .1 .0 in
-    let n = c .before .link-number in
-    sym (passed-stop (linkOf s) (linkAt s) (parts s) (l .j) (l .seen) (l .before) (omega (arith, e, c .before .before .before .before .before .before .before .before .pre .1 .1 .1)) (l .inv .1) _ (c .before .before .before .link .ensures .0) (c .before .before .before .link .ensures .1 .1 .1) (n .result)
-    (n .ensures ∙ ap (λ (p : ℕ). linkNumber p (l .seen) (l .before) (linkRow (c .before .before .before .link .result))) e) (a .m) (c .before .before .before .before .loop-test .taken) (c .if1 .taken)
-    ∙ ap (λ (p : ℕ). refused (n .result) (8 + 8 * p + 4 * l .j)) (sym e))
+    let e = c .before .before .before .before .before .before .before .before .before .pre .1 .0 in
+    let n = c .before .before .link-number in
+    ap (refused (n .result)) (c .link-at .ensures .0)
+    ∙ sym (passed-stop (linkOf s) (linkAt s) (parts s) (l .j) (l .seen) (l .before) (omega (arith, e, c .before .before .before .before .before .before .before .before .before .pre .1 .1 .1)) (l .inv .1) _ (c .before .before .before .before .link .ensures .0) (c .before .before .before .before .link .ensures .1 .1 .1) (n .result)
+    (n .ensures ∙ ap (λ (p : ℕ). linkNumber p (l .seen) (l .before) (linkRow (c .before .before .before .before .link .result))) e) (a .m) (c .before .before .before .before .before .loop-test .taken) (c .before .if1 .taken))
 
 slice-aggregate-add-link : tie.Need-slice-aggregate-add-link Inv-loop μ-loop
 slice-aggregate-add-link c = sym (c .before .before .before .before .before .before .loop .inv .2 ∙ length-none)
@@ -103,10 +94,7 @@ sheet-links-spec =
     link-requires
     slice-aggregate-link-number
     link-number-requires
-    mul-t13
-    add-t14
-    mul-t15
-    add-t16
+    link-at-requires
     returns
     slice-aggregate-add-link
     add-link-requires

@@ -1,4 +1,4 @@
-use Rattle.slots.specs.Model.{lesser}
+use Rattle.sets.specs.Sets.{lesser}
 use Rattle.slots.proofs.Steps.{merged-is}
 use borrow.Author.Needs.{needs}
 use Rattle.slots.proofs.merge_lesser.Statement.{statement}

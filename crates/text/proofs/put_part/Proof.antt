@@ -1,6 +1,6 @@
 use lib.ListN.{length, length-append}
 use Rattle.text.proofs.PartLaws.{name-unblank, number-given, number-fresh, part-5, part-4, part-102, part-16, part-fine, part-refused, part-taken, slot-written}
-use Rattle.percolation.specs.Ranges.{goodCount}
+use Rattle.percolation.specs.Ranges.{narrowCount}
 use borrow.Author.Tests.{not-true, not-false}
 use native.Mathlib.Omega.{arith}
 use mathlib.Core.List.{[], _∷_}
@@ -16,16 +16,16 @@ is-name-requires c κs = search needs
 returns : tie.Need-returns
 returns c = λ N h l. part-refused N _ _ _ _ _ _ (part-5 _ N _ _ (sym (c .before .is-name .ensures) ∙ not-true _ (c .if1 .taken)))
 
-add-good-count : tie.Need-add-good-count
-add-good-count c = search needs
+add-narrow-count : tie.Need-add-narrow-count
+add-narrow-count c = search needs
 
-good-count-requires : tie.Need-good-count-requires
-good-count-requires c κs = search needs
+narrow-count-requires : tie.Need-narrow-count-requires
+narrow-count-requires c κs = search needs
 
 returns-2 : tie.Need-returns-2
 returns-2 c = λ N h l. let a = c .before .before .before .before .before .before .args in
     let g : a .p + 1 ≡ suc (length N) = omega arith in
-    part-refused N _ _ _ _ _ _ (part-4 _ N _ _ (sym (c .before .before .before .is-name .ensures) ∙ not-false _ (c .before .before .if1 .left)) (ap goodCount (sym g) ∙ sym (c .before .good-count .ensures) ∙ not-true _ (c .if2 .taken)))
+    part-refused N _ _ _ _ _ _ (part-4 _ N _ _ (sym (c .before .before .before .is-name .ensures) ∙ not-false _ (c .before .before .if1 .left)) (ap narrowCount (sym g) ∙ sym (c .before .narrow-count .ensures) ∙ not-true _ (c .if2 .taken)))
 
 find-name-requires : tie.Need-find-name-requires
 find-name-requires c κs = search needs
@@ -38,7 +38,7 @@ returns-3 c = λ N h l. let a = c .before .before .before .before .before .befor
     let g : a .p + 1 ≡ suc (length N) = omega arith in
     let e = sym (c .before .before .before .before .before .before .is-name .ensures) ∙ not-false _ (c .before .before .before .before .before .if1 .left) in
     let f = c .before .find-name .ensures .1 N h l (name-unblank (a .name .now) e) in
-    part-refused N _ _ _ _ _ _ (part-102 _ N _ (a .name .now) e (ap goodCount (sym g) ∙ sym (c .before .before .before .before .good-count .ensures) ∙ not-false _ (c .before .before .before .if2 .left)) (number-given N (a .name .now) (omega (arith, f, c .if3 .taken))))
+    part-refused N _ _ _ _ _ _ (part-102 _ N _ (a .name .now) e (ap narrowCount (sym g) ∙ sym (c .before .before .before .before .narrow-count .ensures) ∙ not-false _ (c .before .before .before .if2 .left)) (number-given N (a .name .now) (omega (arith, f, c .if3 .taken))))
 
 mul-at : tie.Need-mul-at
 mul-at c = search needs
@@ -54,7 +54,7 @@ returns-4 c = λ N h l. let a = c .before .before .before .before .before .befor
     let g : a .p + 1 ≡ suc (length N) = omega arith in
     let e = sym (c .before .before .before .before .before .before .before .is-name .ensures) ∙ not-false _ (c .before .before .before .before .before .before .if1 .left) in
     let f = c .before .before .find-name .ensures .1 N h l (name-unblank (a .name .now) e) in
-    part-refused N _ _ _ _ _ _ (part-16 _ N _ (a .name .now) e (ap goodCount (sym g) ∙ sym (c .before .before .before .before .before .good-count .ensures) ∙ not-false _ (c .before .before .before .before .if2 .left)) (number-fresh N (a .name .now) (omega (arith, f, c .before .if3 .left))) (omega (arith, c .if4 .taken)))
+    part-refused N _ _ _ _ _ _ (part-16 _ N _ (a .name .now) e (ap narrowCount (sym g) ∙ sym (c .before .before .before .before .before .narrow-count .ensures) ∙ not-false _ (c .before .before .before .before .if2 .left)) (number-fresh N (a .name .now) (omega (arith, f, c .before .if3 .left))) (omega (arith, c .if4 .taken)))
 
 add-put-name : tie.Need-add-put-name
 add-put-name c = search needs
@@ -82,7 +82,7 @@ returns-5 c = λ N h l. let a = c .before .before .before .before .before .befor
     let g : a .p + 1 ≡ suc (length N) = omega arith in
     let e = sym (c .before .before .before .before .before .before .before .before .before .before .before .is-name .ensures) ∙ not-false _ (c .before .before .before .before .before .before .before .before .before .before .if1 .left) in
     let f = c .before .before .before .before .before .before .find-name .ensures .1 N h l (name-unblank (a .name .now) e) in
-    part-taken N _ _ (a .names .now) _ _ (part-fine _ N _ (a .name .now) e (ap goodCount (sym g) ∙ sym (c .before .before .before .before .before .before .before .before .before .good-count .ensures) ∙ not-false _ (c .before .before .before .before .before .before .before .before .if2 .left)) (number-fresh N (a .name .now) (omega (arith, f, c .before .before .before .before .before .if3 .left))) (omega (arith, c .before .before .before .before .if4 .left))) (omega (arith, length-append N (a .name .now ∷ []))) (slot-written N (a .name .now) (a .names .now) _ (a .p) (8 * a .p + 8 - 8 * a .p) h l (omega arith) (omega (arith, c .before .before .before .before .if4 .left)) (c .before .before .put-name .ensures))
+    part-taken N _ _ (a .names .now) _ _ (part-fine _ N _ (a .name .now) e (ap narrowCount (sym g) ∙ sym (c .before .before .before .before .before .before .before .before .before .narrow-count .ensures) ∙ not-false _ (c .before .before .before .before .before .before .before .before .if2 .left)) (number-fresh N (a .name .now) (omega (arith, f, c .before .before .before .before .before .if3 .left))) (omega (arith, c .before .before .before .before .if4 .left))) (omega (arith, length-append N (a .name .now ∷ []))) (slot-written N (a .name .now) (a .names .now) _ (a .p) (8 * a .p + 8 - 8 * a .p) h l (omega arith) (omega (arith, c .before .before .before .before .if4 .left)) (c .before .before .put-name .ensures))
 
 pub put-part-spec : {M : Type 1} → statement M
 put-part-spec =
@@ -90,8 +90,8 @@ put-part-spec =
     (tie.spec
     is-name-requires
     returns
-    add-good-count
-    good-count-requires
+    add-narrow-count
+    narrow-count-requires
     returns-2
     find-name-requires
     same-length

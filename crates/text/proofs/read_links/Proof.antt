@@ -8,12 +8,14 @@ use native.Mathlib.Omega.{arith}
 use Prim.Native.Nat.{ℕ, _-_}
 use borrow.Author.Needs.{needs}
 use mathlib.Core.List.{List}
-use mathlib.Core.Path.{_≡_, refl, _∙_}
+use mathlib.Core.Path.{_≡_, refl, sym, ap, _∙_}
+use Rattle.sets.specs.Value.{noRows}
+use Rattle.sets.proofs.Tables.{length-none}
 use Rattle.text.proofs.read_links.Statement.{statement}
 use Rattle.text.proofs.read_links.Tie as tie
 
 abbrev Inv-loop : tie.InvT-loop
-Inv-loop text names p lower₀ higher₀ weights₀ seen₀ m₀ at₀ lower higher weights seen m at = (length seen ≡ 64) × Sizes (linkLists lower higher weights) (linkLists lower₀ higher₀ weights₀)
+Inv-loop text names p lower₀ higher₀ weights₀ seen₀ m₀ at₀ lower higher weights seen m at = (length seen ≡ length noRows) × Sizes (linkLists lower higher weights) (linkLists lower₀ higher₀ weights₀)
     × ((N : List (List ℕ)) → Held N names → length N ≡ p → LinksSoFar text N (linkLists lower₀ higher₀ weights₀) (linkLists lower higher weights) seen m at)
 
 abbrev μ-loop : tie.MeasureT-loop
@@ -23,7 +25,7 @@ no-rows-requires : tie.Need-no-rows-requires Inv-loop μ-loop
 no-rows-requires c κs = search needs
 
 loop-holds : tie.Need-loop-holds Inv-loop μ-loop
-loop-holds c = (search needs, record { lower = refl; higher = refl; weights = refl }, λ N h l. links-none _ N _ _ (c .no-rows .ensures))
+loop-holds c = (ap length (c .no-rows .ensures), record { lower = refl; higher = refl; weights = refl }, λ N h l. links-none _ N _ _ (c .no-rows .ensures))
 
 line-end-requires : tie.Need-line-end-requires Inv-loop μ-loop
 line-end-requires c κs = search needs
@@ -38,7 +40,7 @@ part-link-line-end : tie.Need-part-link-line-end Inv-loop μ-loop
 part-link-line-end c = omega (arith, line-end-fits (eqb 10) (c .before .before .before .before .before .before .before .before .before .args .text .now) (c .before .before .loop .at) (omega arith))
 
 slice-aggregate-link-line : tie.Need-slice-aggregate-link-line Inv-loop μ-loop
-slice-aggregate-link-line c = search needs
+slice-aggregate-link-line c = sym (c .before .before .before .before .loop .inv .0 ∙ length-none)
 
 link-line-requires : tie.Need-link-line-requires Inv-loop μ-loop
 link-line-requires c κs = c .before .before .before .before .before .before .before .before .before .before .before .before .before .before .pre

@@ -1,0 +1,4 @@
+pub mod AllTaken
+pub mod FreeAll
+pub mod Inserted
+pub mod Taking

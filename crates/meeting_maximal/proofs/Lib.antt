@@ -1,0 +1,4 @@
+pub mod Asked
+pub mod Joined
+pub mod Levels
+pub mod Taken

@@ -1,0 +1,3 @@
+pub mod Completed
+pub mod Taking
+pub mod Turns

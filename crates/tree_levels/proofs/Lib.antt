@@ -1,0 +1,4 @@
+pub mod LevelSteps
+pub mod LevelWritten
+pub mod LineFilling
+pub mod LineNumbers

@@ -1,0 +1,2 @@
+pub mod IntoFields
+pub mod LinePlaces

@@ -1,0 +1,3 @@
+pub mod SheetPasses
+pub mod TreePasses
+pub mod TreeWritten

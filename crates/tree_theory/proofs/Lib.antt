@@ -1,0 +1,15 @@
+pub mod BegunSlots
+pub mod ByRoots
+pub mod ClassCounts
+pub mod LevelJoins
+pub mod LevelKept
+pub mod LevelLines
+pub mod LevelNumbers
+pub mod LevelStep
+pub mod RootsFew
+pub mod RootsLevel
+pub mod RootsLines
+pub mod RootsNumbers
+pub mod RootsRest
+pub mod SweptRows
+pub mod UnionsKept
