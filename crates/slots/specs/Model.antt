@@ -1,4 +1,4 @@
--- Model of the code: what each step does to the four tables, on lists. What that means is proved of it (proofs/Taken.antt). Assumes nothing.
+-- Model of the code: what each step does to the four tables, on lists. What that means is proved of it (crate slots_theory). Assumes nothing.
 use mathlib.Core.Bool.{true, false, _&&_}
 use mathlib.Core.List.{[], List, _∷_}
 use Prim.Native.Nat.{ℕ, zero, suc, min, max}
