@@ -7,6 +7,7 @@ use crate::refusal::tell;
 use crate::tree;
 use answers::Answer;
 use meeting::Met;
+use runs::Method;
 use sets::Set;
 
 // A call with k, and with the threshold or the two cliques.
@@ -18,8 +19,7 @@ pub enum Call {
 
 // A call by the run that answers it.
 enum Run {
-    MaximalListing(usize, u16),
-    SequentialListing(usize, u16),
+    Listing(Method, usize, u16),
     Tree(usize),
     SequentialMeeting(usize, Set, Set),
     MaximalMeeting(usize, Set, Set),
@@ -41,12 +41,17 @@ fn in_tables(run: Run, s: &[u8], out: &mut [u8; SPACE]) -> Answer {
     let mut low = [0u64; SLOTS];
     let mut all = [0u64; SLOTS];
     match run {
-        Run::MaximalListing(k, t) => {
-            maximal::listing(s, k, t, &mut sets, &mut joins, &mut low, &mut all, out)
-        }
-        Run::SequentialListing(k, t) => {
-            sequential_listing::listing(s, k, t, &mut sets, &mut joins, &mut low, &mut all, out)
-        }
+        Run::Listing(method, k, t) => sheet_listing::listing(
+            method,
+            s,
+            k,
+            t,
+            &mut sets,
+            &mut joins,
+            &mut low,
+            &mut all,
+            out,
+        ),
         Run::Tree(k) => merge_tree::lines(s, k, &mut sets, &mut joins, &mut low, &mut all, out),
         Run::SequentialMeeting(k, a, b) => {
             counted(meeting_sequential::meet(s, k, a, b, &mut sets, &mut joins, &mut low, &mut all))
@@ -78,8 +83,8 @@ fn either(first: Run, second: Run, s: &[u8], out: &mut [u8; SPACE]) -> Answer {
 fn result(call: Call, s: &[u8], out: &mut [u8; SPACE]) -> Answer {
     match call {
         Call::Listing(k, t) => either(
-            Run::MaximalListing(k, t),
-            Run::SequentialListing(k, t),
+            Run::Listing(Method::Maximal, k, t),
+            Run::Listing(Method::Sequential, k, t),
             s,
             out,
         ),

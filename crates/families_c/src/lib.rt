@@ -27,6 +27,7 @@ use outcomes::of_meeting;
 use outcomes::of_name;
 use outcomes::of_sheet;
 use outcomes::of_step;
+use runs::Method;
 use sequential::State;
 
 // sheet_reader::read: count is the links, parts the parts.
@@ -139,7 +140,7 @@ pub extern "C" fn families_listing_now(
     of_answer(sequential::listing_now(state, sets, entries, smallest, unions, out))
 }
 
-// sequential_listing::listing: count is the communities.
+// sheet_listing::listing by the sequential run: count is the communities.
 #[no_mangle]
 pub extern "C" fn families_listing_sequential(
     sheet: &[u8],
@@ -153,10 +154,20 @@ pub extern "C" fn families_listing_sequential(
 ) -> Outcome
     ensures { λ r. ⌜ Shows (λ a. ListingMeets (slotsFor (now (sheet .entry)) k t) (now (sheet .entry)) k t (lent (now (sets .entry)) (now (entries .entry)) (now (smallest .entry)) (now (unions .entry))) (now (out .entry)) a (lent (now (sets .exit)) (now (entries .exit)) (now (smallest .exit)) (now (unions .exit))) (now (out .exit))) r ⌝ }
 {
-    of_answer(sequential_listing::listing(sheet, k, t, sets, entries, smallest, unions, out))
+    of_answer(sheet_listing::listing(
+        Method::Sequential,
+        sheet,
+        k,
+        t,
+        sets,
+        entries,
+        smallest,
+        unions,
+        out,
+    ))
 }
 
-// maximal::listing: count is the communities.
+// sheet_listing::listing by the maximal-clique run: count is the communities.
 #[no_mangle]
 pub extern "C" fn families_listing_maximal(
     sheet: &[u8],
@@ -170,7 +181,17 @@ pub extern "C" fn families_listing_maximal(
 ) -> Outcome
     ensures { λ r. ⌜ Shows (λ a. ListingMeets (maximalsFor (now (sheet .entry)) k t) (now (sheet .entry)) k t (lent (now (sets .entry)) (now (entries .entry)) (now (smallest .entry)) (now (unions .entry))) (now (out .entry)) a (lent (now (sets .exit)) (now (entries .exit)) (now (smallest .exit)) (now (unions .exit))) (now (out .exit))) r ⌝ }
 {
-    of_answer(maximal::listing(sheet, k, t, sets, entries, smallest, unions, out))
+    of_answer(sheet_listing::listing(
+        Method::Maximal,
+        sheet,
+        k,
+        t,
+        sets,
+        entries,
+        smallest,
+        unions,
+        out,
+    ))
 }
 
 // meeting_sequential::meet: count is the weight, 0 for never.

@@ -5,6 +5,7 @@ use console::field;
 use console::text;
 use libc::STDIN_FILENO;
 use meeting::Met;
+use runs::Method;
 use sets::Set;
 
 fn met(m: Met) {
@@ -51,20 +52,6 @@ fn meet(
     meeting_maximal::meet(sheet, k, a, b, sets, entries, smallest, unions)
 }
 
-fn listing(
-    sheet: &[u8],
-    k: usize,
-    t: u16,
-    sets: &mut [u64],
-    entries: &mut [u32],
-    smallest: &mut [u64],
-    unions: &mut [u64],
-    out: &mut [u8],
-) {
-    let a = maximal::listing(sheet, k, t, sets, entries, smallest, unions, out);
-    trial::shown(a, out, sets, entries, smallest, unions);
-}
-
 // The listing at the threshold t, or the meeting weight of a and b.
 fn answer(
     call: u8,
@@ -80,7 +67,18 @@ fn answer(
     out: &mut [u8],
 ) {
     if call == b'l' {
-        listing(sheet, k, t, sets, entries, smallest, unions, out);
+        let l = sheet_listing::listing(
+            Method::Maximal,
+            sheet,
+            k,
+            t,
+            sets,
+            entries,
+            smallest,
+            unions,
+            out,
+        );
+        trial::shown(l, out, sets, entries, smallest, unions);
         return;
     }
     met(meet(call, sheet, k, a, b, sets, entries, smallest, unions));
@@ -132,17 +130,13 @@ fn on(line: &[u8], sheet: &[u8]) {
 }
 
 fn run(script: &[u8]) {
-    let mut sheet = 0;
-    let mut at = 0;
-    while at < script.len() {
-        let line = trial::line(script, at);
-        if trial::has_bytes(line) {
-            sheet = at;
-            at += line.len() + 1;
-        } else {
-            on(line, trial::line(script, sheet));
-            at += line.len() + 1;
-        }
+    let mut row = trial::next_row(script, 0, 0);
+    while row.call < script.len() {
+        on(
+            trial::line(script, row.call),
+            trial::line(script, row.bytes),
+        );
+        row = trial::next_row(script, row.rest, row.bytes);
     }
 }
 

@@ -24,6 +24,18 @@ writes-sets old new y i k z e a x b f l m =
     ∙ ap₂ (λ (u v : List ℕ). u ++ y ++ v) (ap (take k) (f ∙ append-assoc a x b) ∙ take-at a (x ++ b) k l)
     (ap (drop (k + length y)) f ∙ drop-at (a ++ x) b (k + length y) long)
 
+-- and back, where it fits
+pub sets-writes : (old new y : List ℕ) (k : ℕ) → k + length y ≤ length old → Writes old new k y → new ≡ sets old k y
+sets-writes old new y k h w =
+    let a = take k old in
+    let x = take (length y) (drop k old) in
+    let b = drop (length y) (drop k old) in
+    let parts : old ≡ a ++ x ++ b =
+    sym (take-append-drop k old) ∙ ap (λ (t : List ℕ). a ++ t) (sym (take-append-drop (length y) (drop k old))) ∙ sym (append-assoc a x b) in
+    let la : length a ≡ k = length-take-le k old (omega arith) in
+    let lx : length x ≡ length y = length-take-le (length y) (drop k old) (omega (arith, length-drop k old)) in
+    w a x b parts la lx ∙ sym (writes-sets old (sets old k y) y k k refl refl a x b parts la lx)
+
 -- a set
 pub writes-set : (old new : List ℕ) (i k s : ℕ) → i ≡ k → new ≡ withSet old i s → Writes old new k (setBytes s)
 writes-set old new i k s z e a x b f l m = put-writes old new i s e a x b f (l ∙ sym z) (m ∙ set-length s)

@@ -6,12 +6,14 @@ use Prim.Native.Nat.{ℕ}
 use lib.ListN.{length}
 use Rattle.answers.specs.Verdict.{Verdict, _then_, unless}
 use Rattle.answers.specs.declared.Answer.{Answer}
-use Rattle.percolation.specs.Percolate.{Community, listingBytes}
-use Rattle.percolation.specs.Links.{heavy, cliques, family, slots, listing, maximals}
+use Rattle.percolation.specs.Percolate.{Community, communities, listingBytes}
+use Rattle.percolation.specs.Links.{Link, heavy, cliques, family, slots, listing, maximals}
 use Rattle.percolation.specs.Steps.{enough}
 use Rattle.sheet.specs.Sheet.{parts, linksOf}
 use Rattle.slots.specs.Tables.{Tables}
 use Rattle.listings.specs.Listing.{checkOut, Writes}
+use Rattle.runs.specs.declared.Method.{Method}
+use Rattle.runs.specs.declared.Method.the-variants.{Sequential, Maximal}
 use Rattle.runs.specs.Lent.{checkCall, left}
 
 -- ---- any such call: n is what its answer counts, B what it writes, old the output before it and out that after it
@@ -33,6 +35,10 @@ pub record CallMeets (before : Verdict) (fits : Bool) (n : ℕ) (B : List ℕ) (
 
 -- ---- the listing
 
+-- what a run must do for the listing of the links L of parts below p
+abbrev pub RunLists : Bool → List Link → ℕ → ℕ → List ℕ → Answer → List ℕ → Type 0
+RunLists fits L p k old r out = RunMeets fits (length (communities k (cliques L p k))) (listingBytes (communities k (cliques L p k))) old r out
+
 -- the listing of a sheet
 unfoldable pub listingOf : List ℕ → ℕ → ℕ → List Community
 unfolding listing linksOf
@@ -50,6 +56,16 @@ maximalsFor s k t = length (maximals (heavy t (linksOf s)) (parts s) k)
 -- and for all links, by the sequential run
 abbrev pub slotsOf : List ℕ → ℕ → ℕ
 slotsOf s k = slots (parts s) k (cliques (linksOf s) (parts s) k)
+
+-- what 15 counts, by either run
+unfoldable pub countFor : Method → List ℕ → ℕ → ℕ → ℕ
+unfolding slotsFor maximalsFor
+countFor Sequential s k t = slotsFor s k t
+countFor Maximal s k t = maximalsFor s k t
+
+-- what either run must do, with n slots
+abbrev pub MethodMeets : Method → List ℕ → ℕ → ℕ → ℕ → List ℕ → Answer → List ℕ → Type 0
+MethodMeets m s k t n old r out = RunMeets (enough n (countFor m s k t)) (length (listingOf s k t)) (listingBytes (listingOf s k t)) old r out
 
 -- what the call must do, where 15 counts c cliques
 abbrev pub ListingMeets : ℕ → List ℕ → ℕ → ℕ → Tables → List ℕ → Answer → Tables → List ℕ → Type 0

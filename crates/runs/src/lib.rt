@@ -17,6 +17,12 @@ ghost use Rattle.runs.specs.Model.{rowsWith, tookLinks};
 use sets::Rows;
 use sheet::Checked;
 
+// Which run makes a listing.
+pub enum Method {
+    Sequential,
+    Maximal,
+}
+
 // Whether the tables of sets have as many sets as there are joining entries, and no word more.
 pub fn level(sets: &[u64], entries: &[u32], smallest: &[u64], unions: &[u64]) -> bool
     ensures { λ r. ⌜ r ≡ level (lent (now (sets .entry)) (now (entries .entry)) (now (smallest .entry)) (now (unions .entry))) ⌝ }

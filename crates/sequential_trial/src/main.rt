@@ -6,6 +6,7 @@ use answers::Answer;
 use console::field;
 use console::text;
 use libc::STDIN_FILENO;
+use runs::Method;
 use sequential::State;
 
 // ---- the steps
@@ -218,20 +219,6 @@ fn asked(call: u8, n: &[usize; 8]) {
     text(b": ");
 }
 
-fn listing(
-    sheet: &[u8],
-    k: usize,
-    t: u16,
-    sets: &mut [u64],
-    entries: &mut [u32],
-    smallest: &mut [u64],
-    unions: &mut [u64],
-    out: &mut [u8],
-) {
-    let a = sequential_listing::listing(sheet, k, t, sets, entries, smallest, unions, out);
-    trial::shown(a, out, sets, entries, smallest, unions);
-}
-
 // The listing of a sheet, which leaves the state alone, or steps from the links.
 fn answer(
     call: u8,
@@ -249,7 +236,8 @@ fn answer(
     if call != b'l' {
         return steps(p, k, links, sets, entries, smallest, unions, out);
     }
-    listing(
+    let l = sheet_listing::listing(
+        Method::Sequential,
         sheet,
         k,
         trial::small(p),
@@ -259,6 +247,7 @@ fn answer(
         unions,
         out,
     );
+    trial::shown(l, out, sets, entries, smallest, unions);
     state
 }
 
@@ -317,17 +306,11 @@ fn run(script: &[u8]) {
         last: 0,
         rows,
     };
-    let mut spelled = 0;
-    let mut at = 0;
-    while at < script.len() {
-        let line = trial::line(script, at);
-        if trial::has_bytes(line) {
-            spelled = at;
-            at += line.len() + 1;
-        } else {
-            state = row(line, trial::line(script, spelled), state);
-            at += line.len() + 1;
-        }
+    let mut next = trial::next_row(script, 0, 0);
+    while next.call < script.len() {
+        let line = trial::line(script, next.call);
+        state = row(line, trial::line(script, next.bytes), state);
+        next = trial::next_row(script, next.rest, next.bytes);
     }
 }
 

@@ -37,7 +37,6 @@ fn pair(a: u64, b: u64) {
     truth(sets::subset(s, t));
     truth(sets::less(s, t));
     truth(sets::same(s, t));
-    set(sets::lesser(s, t));
     end();
 }
 
@@ -72,6 +71,22 @@ fn table() {
     sets::clear(&mut rows);
     set(sets::at(&rows, 0));
     set(sets::at(&rows, 2));
+    end();
+}
+
+// The one that comes first, either way round; and how many parts a set may hold.
+fn lesser(a: u64, b: u64) {
+    let s = sets::from_word(a);
+    let t = sets::from_word(b);
+    text(b"lesser ");
+    set(sets::lesser(s, t));
+    set(sets::lesser(t, s));
+    end();
+}
+
+fn most() {
+    text(b"most ");
+    count(sets::most());
     end();
 }
 
@@ -127,7 +142,6 @@ fn in_bytes() {
 fn none() {
     let rows = sets::no_rows();
     text(b"none ");
-    count(sets::most());
     count(sets::rows(&rows));
     set(sets::at(&rows, 63));
     end();
@@ -154,6 +168,11 @@ fn main() {
     part(18446744073709551615, 64);
     part(1057, 1000);
     table();
-    numbers();
     in_bytes();
+    lesser(7, 14);
+    lesser(7, 7);
+    lesser(0, 9223372036854775808);
+    lesser(18446744073709551615, 28);
+    most();
+    numbers();
 }

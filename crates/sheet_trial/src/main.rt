@@ -165,17 +165,13 @@ fn on(line: &[u8], spelled: &[u8]) {
 }
 
 fn run(script: &[u8]) {
-    let mut spelled = 0;
-    let mut at = 0;
-    while at < script.len() {
-        let line = trial::line(script, at);
-        if trial::has_bytes(line) {
-            spelled = at;
-            at += line.len() + 1;
-        } else {
-            on(line, trial::line(script, spelled));
-            at += line.len() + 1;
-        }
+    let mut row = trial::next_row(script, 0, 0);
+    while row.call < script.len() {
+        on(
+            trial::line(script, row.call),
+            trial::line(script, row.bytes),
+        );
+        row = trial::next_row(script, row.rest, row.bytes);
     }
 }
 

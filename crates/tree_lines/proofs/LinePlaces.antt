@@ -9,7 +9,7 @@ use Rattle.sets.specs.Value.{bytes, setBytes, setLength, withSet}
 use Rattle.sets.proofs.SetBytes.{bytes-length, set-length}
 use Rattle.percolation.specs.Tree.{Line, line, treeBytes}
 use Rattle.records.specs.Model.{Opened}
-use Rattle.records.proofs.Numbers.{Writes, Field, writes-sets, writes-set, writes-both}
+use Rattle.records.proofs.Numbers.{Field, writes-sets, sets-writes, writes-set, writes-both}
 use Rattle.records.proofs.InBytes.{records-none, records-append, records-length, gap-filled}
 use Rattle.tree_lines.specs.LineModel.{lineLength, lineBytes, PlacesLine}
 
@@ -54,21 +54,23 @@ small-at x = record { front = headOf (x .weight) (x .joins) (x .into); back = se
 
 pub fields-written : (o0 o1 o2 o3 o4 o5 : List ℕ) (k i1 i2 i3 i4 w j i s u : ℕ) → i1 ≡ k + 2 → i2 ≡ k + 6 → i3 ≡ k + 10 → i4 ≡ k + 10 + setLength
     → o1 ≡ sets o0 k (bytes 2 w) → o2 ≡ sets o1 i1 (bytes 4 j) → o3 ≡ sets o2 i2 (bytes 4 i) → o4 ≡ withSet o3 i3 s → o5 ≡ withSet o4 i4 u
-    → Writes o0 o5 k (lineBytes (line w j i s u))
-fields-written o0 o1 o2 o3 o4 o5 k i1 i2 i3 i4 w j i s u e1 e2 e3 e4 w1 w2 w3 w4 w5 =
+    → k + lineLength ≤ length o0 → o5 ≡ sets o0 k (lineBytes (line w j i s u))
+fields-written o0 o1 o2 o3 o4 o5 k i1 i2 i3 i4 w j i s u e1 e2 e3 e4 w1 w2 w3 w4 w5 fits =
     let n2 : length (bytes 2 w ++ bytes 4 j) ≡ 6 = omega (arith, length-append (bytes 2 w) (bytes 4 j), bytes-length 2 w, bytes-length 4 j) in
     let n4 : length (headOf w j i ++ setBytes s) ≡ 10 + setLength = omega (arith, length-append (headOf w j i) (setBytes s), head-length w j i, set-length s) in
     let c1 = writes-both o0 o1 o2 (bytes 2 w) (bytes 4 j) k i1 (omega (arith, bytes-length 2 w)) (writes-sets o0 o1 (bytes 2 w) k k refl w1) (writes-sets o1 o2 (bytes 4 j) i1 i1 refl w2) in
     let c2 = writes-both o0 o2 o3 (bytes 2 w ++ bytes 4 j) (bytes 4 i) k i2 (omega (arith, n2)) c1 (writes-sets o2 o3 (bytes 4 i) i2 i2 refl w3) in
     let c3 = writes-both o0 o3 o4 (headOf w j i) (setBytes s) k i3 (omega (arith, head-length w j i)) c2 (writes-set o3 o4 i3 i3 s refl w4) in
-    writes-both o0 o4 o5 (headOf w j i ++ setBytes s) (setBytes u) k i4 (omega (arith, n4)) c3 (writes-set o4 o5 i4 i4 u refl w5)
+    let c4 = writes-both o0 o4 o5 (headOf w j i ++ setBytes s) (setBytes u) k i4 (omega (arith, n4)) c3 (writes-set o4 o5 i4 i4 u refl w5) in
+    sets-writes o0 o5 (lineBytes (line w j i s u)) k (omega (arith, line-bytes (line w j i s u))) c4
 
 -- in the place opened for it
 pub put-whole : (old mid new : List ℕ) (from to size start : ℕ) (y : Line) → size ≡ lineLength → Opened old mid from to size 10 (y .small) start
-    → Writes mid new start (lineBytes y) → PlacesLine old new from to y
+    → new ≡ sets mid start (lineBytes y) → PlacesLine old new from to y
 unfolding treeBytes
-put-whole old mid new from to size start y =
-    gap-filled lineBytes lineLength line-bytes (λ (z : Line). z .small) 10 small-at old mid new from to size start y
+put-whole old mid new from to size start y e o w =
+    gap-filled lineBytes lineLength line-bytes (λ (z : Line). z .small) 10 small-at old mid new from to size start y e o
+    (writes-sets mid new (lineBytes y) start start refl w)
 
 -- ---- room for one more line behind n lines
 

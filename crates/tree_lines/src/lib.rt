@@ -3,9 +3,9 @@ ghost use mathlib.Core.Path.{_≡_};
 ghost use mathlib.Core.List.{List};
 ghost use Prim.Native.Nat.{ℕ, _+_, _%_, _^_, _<_, _≤_};
 ghost use lib.ListN.{length};
+ghost use lib.Seq.{sets};
 ghost use Rattle.sets.specs.Value.{num};
 ghost use Rattle.percolation.specs.Tree.{Start, line};
-ghost use Rattle.records.proofs.Numbers.{Writes};
 ghost use Rattle.tree_lines.specs.LineModel.{lineLength, lineBytes, changed, holding, PlacesLine, Redirects};
 use sets::Set;
 
@@ -27,7 +27,7 @@ fn put_fields(
     whole: Set,
 )
     requires { ⌜ start + lineLength ≤ length (now out) ⌝ }
-    ensures { λ _. ⌜ Writes (now (out .entry)) (now (out .exit)) start (lineBytes (line weight joins into (num small) (num whole))) ⌝ }
+    ensures { λ _. ⌜ now (out .exit) ≡ sets (now (out .entry)) start (lineBytes (line weight joins into (num small) (num whole))) ⌝ }
 {
     records::put_two(out, start, weight);
     records::put_four(out, start + 2, joins);

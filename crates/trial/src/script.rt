@@ -1,15 +1,50 @@
 // A script: each line is =BYTES, or LABEL: CALL NUMBER.. with up to seven numbers.
 ghost use mathlib.Core.Path.{_≡_};
-ghost use Prim.Native.Nat.{_+_, _%_, _≤_, _<_};
+ghost use Prim.Native.Nat.{_+_, _%_, _-_, _≤_, _<_, min};
 ghost use lib.ListN.{length};
 
-// The line that starts at `at`, without its end. For the trial programs: their loop stays within the script.
+// The line that starts at `at`, without its end; none past the script's end.
 pub fn line(script: &[u8], at: usize) -> &[u8]
-    requires { ⌜ at ≤ length (now script) ⌝ }
-    ensures { λ r. ⌜ at + length (now r) ≤ length (now (script .entry)) ⌝ }
+    ensures { λ r. ⌜ length (now r) ≤ length (now (script .entry)) - at ⌝ }
 {
+    if script.len() < at {
+        return &script[0..0];
+    }
     let end = bytes::scan::find(script, at, script.len(), b'\n');
     &script[at..end]
+}
+
+// Where a line with a call starts, where the bytes that it is made on are spelled, and where the script goes on.
+pub struct Row {
+    pub call: usize,
+    pub bytes: usize,
+    pub rest: usize,
+}
+
+// The first call from `at` on, where `bytes` was the last line that spelled any; at the script's end or past it where there is none.
+pub fn next_row(script: &[u8], at: usize, bytes: usize) -> Row
+    ensures { λ r. ⌜ (at ≤ r .call) × (min (r .call + 1) (length (now (script .entry))) ≤ r .rest) ⌝ }
+{
+    let mut spelled = bytes;
+    let mut i = at;
+    while i < script.len() {
+        let line = line(script, i);
+        let rest = i + line.len() + 1;
+        if !has_bytes(line) {
+            return Row {
+                call: i,
+                bytes: spelled,
+                rest,
+            };
+        }
+        spelled = i;
+        i = rest;
+    }
+    Row {
+        call: i,
+        bytes: spelled,
+        rest: i,
+    }
 }
 
 // ---- bytes

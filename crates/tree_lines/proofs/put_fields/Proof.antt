@@ -51,6 +51,7 @@ returns c =
     (c .before .before .before .before .before .before .before .before .before .before .before .put-four2 .ensures)
     (c .before .before .before .before .before .before .before .put-bytes .ensures)
     (c .before .before .put-bytes2 .ensures)
+    (c .before .before .before .before .before .before .before .before .before .before .before .before .before .before .before .before .before .before .before .before .before .before .pre)
 
 pub put-fields-spec : {M : Type 1} → statement M
 put-fields-spec =
