@@ -1,4 +1,4 @@
-# `make run` does the main job on an example that ships, `make test` proves and tests everything. `make lib` writes the library for C, `make bench` measures it.
+# `make run` does the main job on examples that ship, `make test` proves and tests everything. `make lib` writes the library for C, `make bench` measures it.
 .PHONY: run test lib bench
 
 run:
@@ -7,6 +7,8 @@ run:
 	@tests/shown 'families pack < examples/bench.txt > target/bench.sheet'
 	@tests/shown 'families listing 3 12 target/bench.sheet'
 	@tests/shown 'families tree 3 target/bench.sheet'
+	@tests/shown 'families from-dump examples/screen.dump > target/screen.sheet'
+	@tests/shown 'families listing 3 6 target/screen.sheet'
 
 test:
 	@tests/run

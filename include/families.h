@@ -17,7 +17,9 @@
  *    9 pair given before  10 k not 2 to 6       11 tables of unequal length
  *   12 a state outside its ranges               13 a set that is no k-clique of the sheet
  *   14 a part not below the part count          15 too few slots        16 an output too short
- * place is a byte of the sheet for 1 to 9 of a call that reads a sheet, else 0.
+ *   17 a dump's mark, version or length         18 a row with a part not below the part count
+ * place is a byte of the sheet for 1 to 9 of a call that reads a sheet, a byte of the dump for 4, 5, 17 and 18 of
+ * families_dump_sheet, else 0.
  */
 #ifndef FAMILIES_H
 #define FAMILIES_H
@@ -30,7 +32,7 @@ extern "C" {
 #endif
 
 /* The number of the latest change request that has landed, in order of landing; 0: the base. */
-#define FAMILIES_EDITION 0
+#define FAMILIES_EDITION 1
 
 /* On a refusal count and parts are 0. parts is 0 from every call but families_read. */
 typedef struct {
@@ -70,6 +72,14 @@ families_outcome families_write(
     const uint16_t *lower, size_t lower_length,
     const uint16_t *higher, size_t higher_length,
     const uint16_t *weights, size_t weights_length,
+    uint8_t *out, size_t out_length);
+
+/*
+ * Writes the sheet of a sensor dump: a pair's weight is the number of rows that hold both its parts. 8,584 bytes are enough for any.
+ * count = bytes.
+ */
+families_outcome families_dump_sheet(
+    const uint8_t *dump, size_t dump_length,
     uint8_t *out, size_t out_length);
 
 /* A part's name. count = where its eight bytes start in the sheet. */

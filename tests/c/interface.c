@@ -38,6 +38,21 @@ static void communities(size_t count)
         printf("  %" PRIu64 "/%" PRIu64 "\n", number(out + 16 * i, 8), number(out + 16 * i + 8, 8));
 }
 
+/* Three parts, of which the first two tripped together twice, all three once, and the last one alone once. */
+static const uint8_t dump[] = "PRD\0\1\3\0\4LOCK    MOTOR   BOARD   "
+    "\0\0\0\0\0\0\0\3" "\0\0\0\0\0\0\0\7" "\0\0\0\0\0\0\0\3" "\0\0\0\0\0\0\0\4";
+
+static void from_dump(void)
+{
+    size_t length = sizeof dump - 1;
+    families_outcome o = families_dump_sheet(dump, length, out, sizeof out);
+    show("dump sheet", o);
+    for (size_t i = 32; i < o.count; i += 4)
+        printf("  %u-%u of %" PRIu64 "\n", (unsigned)out[i], (unsigned)out[i + 1], number(out + i + 2, 2));
+    show("dump sheet, no room", families_dump_sheet(dump, length, out, o.count - 1));
+    show("dump sheet, a byte short", families_dump_sheet(dump, length - 1, out, sizeof out));
+}
+
 static size_t reads_and_writes(void)
 {
     uint8_t read_names[40];
@@ -100,6 +115,7 @@ int main(void)
 {
     printf("edition %d\n", FAMILIES_EDITION);
     size_t length = reads_and_writes();
+    from_dump();
     show("slot bound", families_slot_bound(64, 6));
     show("slot bound, k 1", families_slot_bound(64, 1));
     show("subset count", families_subset_count(64, 5));

@@ -67,6 +67,20 @@ unfolding unless
 unless-passed true n a e = refl
 unless-passed false n a e = accepted-not n a e
 
+-- all of four checks
+pub then-four : (u v w x : Verdict) → (u then v then w then x) ≡ accepted → (u ≡ accepted) × (v ≡ accepted) × (w ≡ accepted) × (x ≡ accepted)
+then-four u v w x e =
+    let past1 = then-right u (v then w then x) e in
+    let past2 = then-right v (w then x) past1 in
+    (then-left u (v then w then x) e, then-left v (w then x) past1, then-left w x past2, then-right w x past2)
+
+-- the second and the third of three checks
+pub then-second : (u v w : Verdict) (n a : ℕ) → u ≡ accepted → v ≡ refused n a → (u then v then w) ≡ refused n a
+then-second u v w n a e f = then-go u (v then w) e ∙ then-stop v w n a f
+
+pub then-third : (u v w x : Verdict) → u ≡ accepted → v ≡ accepted → w ≡ x → (u then v then w) ≡ x
+then-third u v w x e f g = then-go u (v then w) e ∙ then-go v w f ∙ g
+
 -- ---- checks in order: the first refusal stands
 
 below-or-last : (i n : ℕ) → i < suc n → (i < n) ⊎ (i ≡ n)

@@ -6,6 +6,7 @@ mod say;
 
 pub use load::last_file;
 pub use load::read;
+pub use refusal::refused;
 pub use refusal::tell;
 pub use refusal::tell_long;
 pub use say::counted;

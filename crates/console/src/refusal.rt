@@ -59,7 +59,8 @@ fn of_call(number: u8, slots: usize) {
     }
 }
 
-fn head(number: u8, place: usize) {
+// How every refusal begins.
+pub fn refused(number: u8, place: usize) {
     error_field(b"refused ", number as usize);
     error_field(b" at ", place);
     error(b": ");
@@ -67,7 +68,7 @@ fn head(number: u8, place: usize) {
 
 // A refusal of a call on the sheet s, by a program that has so many slots.
 pub fn tell(s: &[u8], number: u8, place: usize, slots: usize) {
-    head(number, place);
+    refused(number, place);
     owner(s, number, place);
     of_sheet(number);
     of_call(number, slots);
@@ -76,7 +77,7 @@ pub fn tell(s: &[u8], number: u8, place: usize, slots: usize) {
 
 // A sheet that is longer than any that is read.
 pub fn tell_long(most: usize) {
-    head(3, most);
+    refused(3, most);
     error_field(b"the sheet is longer than ", most);
     error(b" bytes\n");
 }

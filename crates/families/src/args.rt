@@ -8,6 +8,7 @@ use check::same;
 pub enum Order {
     Help,
     Pack,
+    FromDump,
     Show,
     Listing(usize, u16),
     Tree(usize),
@@ -50,6 +51,13 @@ fn pack(count: usize) -> Order {
         return nothing(b"pack takes no argument: it reads a text and writes a sheet");
     }
     Order::Pack
+}
+
+fn from_dump(count: usize) -> Order {
+    if count != 3 {
+        return nothing(b"from-dump takes a dump: it writes a sheet");
+    }
+    Order::FromDump
 }
 
 fn show(count: usize) -> Order {
@@ -125,6 +133,9 @@ fn command(word: &[u8], count: usize) -> Order {
     }
     if same(word, b"pack") {
         return pack(count);
+    }
+    if same(word, b"from-dump") {
+        return from_dump(count);
     }
     if same(word, b"show") {
         return show(count);

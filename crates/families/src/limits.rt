@@ -12,6 +12,11 @@ pub const LONGEST_SHEET: usize = 65536;
 
 pub const SHEET_SPACE: usize = LONGEST_SHEET + 1;
 
+// The longest dump that its own counts can claim: 255 parts and 65,535 rows.
+pub const LONGEST_DUMP: usize = 8 + 8 * 255 + 8 * 65535;
+
+pub const DUMP_SPACE: usize = LONGEST_DUMP + 1;
+
 pub const LONGEST_TEXT: usize = 262144;
 
 pub const TEXT_SPACE: usize = LONGEST_TEXT + 1;

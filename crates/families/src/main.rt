@@ -1,6 +1,7 @@
 // The program `families`: the answers on a link sheet in words, for the people who typed it.
 mod args;
 mod calls;
+mod from_dump;
 mod heads;
 mod limits;
 mod listing;
@@ -50,6 +51,7 @@ fn main() {
     match order {
         Order::Help => usage::help(),
         Order::Pack => pack::pack(),
+        Order::FromDump => from_dump::from_dump(),
         Order::Nothing => {}
         _ => on_sheet(order),
     }

@@ -10,6 +10,7 @@ use console::Loaded;
 use console::error;
 use console::error_field;
 use console::read;
+use console::refused;
 use libc::STDIN_FILENO;
 use libc::STDOUT_FILENO;
 use text::Text;
@@ -32,15 +33,14 @@ fn fault_words(number: u8) {
 
 // The place is the byte of the text where the line starts; lines are counted from 1.
 fn tell_fault(number: u8, place: usize, line: usize) {
-    error_field(b"refused ", number as usize);
-    error_field(b" at ", place);
-    error_field(b": line ", line);
+    refused(number, place);
+    error_field(b"line ", line);
     error(b": ");
     fault_words(number);
     error(b"\n");
 }
 
-fn put_out(out: &[u8], n: usize) {
+pub fn put_out(out: &[u8], n: usize) {
     if out.len() < n {
         return;
     }

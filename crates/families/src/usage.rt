@@ -5,6 +5,7 @@ use libc::STDOUT_FILENO;
 fn lines(fd: i32) {
     io::write_all(fd, b"usage:\n");
     io::write_all(fd, b"  families pack < TEXT > SHEET\n");
+    io::write_all(fd, b"  families from-dump DUMP > SHEET\n");
     io::write_all(fd, b"  families show SHEET\n");
     io::write_all(fd, b"  families listing K T SHEET\n");
     io::write_all(fd, b"  families tree K SHEET\n");

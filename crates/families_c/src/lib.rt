@@ -10,6 +10,7 @@ ghost use Rattle.sheet.specs.Sheet.{nameAt};
 ghost use Rattle.sheet.specs.Network.{network, networkOf};
 ghost use Rattle.sheet_reader.specs.Reading.{checkRead, writtenNetwork};
 ghost use Rattle.sheet_writer.specs.Writing.{sheetOf, checkWrite};
+ghost use Rattle.dump.specs.Dump.{MakeMeets};
 ghost use Rattle.subsets.specs.Subsets.{tableCount, slotBound, checkBound};
 ghost use Rattle.slots.specs.Tables.{tables};
 ghost use Rattle.runs.specs.Lent.{lent};
@@ -58,6 +59,14 @@ pub extern "C" fn families_write(
     ensures { λ _. ⌜ now (out .exit) ≡ written (checkWrite (network (now (names .entry)) (now (lower .entry)) (now (higher .entry)) (now (weights .entry))) (length (now (out .entry)))) (sheetOf (network (now (names .entry)) (now (lower .entry)) (now (higher .entry)) (now (weights .entry)))) (now (out .entry)) ⌝ }
 {
     of_answer(sheet_writer::write(names, lower, higher, weights, out))
+}
+
+// dump::sheet: count is the bytes.
+#[no_mangle]
+pub extern "C" fn families_dump_sheet(dump: &[u8], out: &mut [u8]) -> Outcome
+    ensures { λ r. ⌜ Shows (λ a. MakeMeets (now (dump .entry)) (now (out .entry)) a (now (out .exit))) r ⌝ }
+{
+    of_answer(dump::sheet(dump, out))
 }
 
 // sheet::find_name: count is where the eight bytes of the part's name start in the sheet.

@@ -11,7 +11,7 @@ use Rattle.percolation.specs.Ranges.{narrowCount}
 use Rattle.percolation.specs.Steps.{checkLink, legal}
 use Rattle.percolation.proofs.Accepted.{legal-checks, checks-legal}
 use Rattle.part_names.specs.Names.{checkNames}
-use Rattle.sheet.specs.Sheet.{parts, links, nameAt, nameOf, listOf, linkOf, linksOf, hasMark, hasVersion, hasLength, checkHead, checkLinkAt, checkSheet}
+use Rattle.sheet.specs.Sheet.{parts, links, nameAt, linkAt, nameOf, listOf, linkOf, linksOf, hasMark, hasVersion, hasLength, checkHead, checkLinkAt, checkSheet}
 use Rattle.sheet.proofs.Lists.{listOf-none, listOf-more}
 use Rattle.sheet.proofs.Heading.{head-length, head-count}
 
@@ -45,7 +45,7 @@ module _ (s : List ℕ) (e : checkSheet s ≡ accepted) where
   pub sheet-links : inOrder (checkLinkAt s) (links s) ≡ accepted
   sheet-links = then-right (checkNames (nameOf s) (nameAt s) (parts s)) (inOrder (checkLinkAt s) (links s)) past-head
 
-  pub sheet-length : hasLength s ≡ true
+  pub sheet-length : hasLength (linkAt s (links s)) s ≡ true
   sheet-length = head-length s sheet-head
 
   pub sheet-count : narrowCount (parts s) ≡ true
@@ -56,12 +56,12 @@ module _ (s : List ℕ) (e : checkSheet s ≡ accepted) where
   sheet-legal = order-legal (parts s) (linkOf s) _ (links s) sheet-links
 
 -- and the other way
-pub head-passes : (s : List ℕ) → hasMark 80 76 83 s ≡ true → hasVersion s ≡ true → hasLength s ≡ true → narrowCount (parts s) ≡ true → checkHead s ≡ accepted
+pub head-passes : (s : List ℕ) → hasMark 80 76 83 s ≡ true → hasVersion 1 s ≡ true → hasLength (linkAt s (links s)) s ≡ true → narrowCount (parts s) ≡ true → checkHead s ≡ accepted
 unfolding checkHead
 head-passes s a b c d =
     then-both (unless (hasMark 80 76 83 s) 1 0) _ (last-go (hasMark 80 76 83 s) 1 0 a)
-    (then-both (unless (hasVersion s) 2 3) _ (last-go (hasVersion s) 2 3 b)
-    (then-both (unless (hasLength s) 3 (length s)) _ (last-go (hasLength s) 3 (length s) c) (last-go (narrowCount (parts s)) 4 5 d)))
+    (then-both (unless (hasVersion 1 s) 2 3) _ (last-go (hasVersion 1 s) 2 3 b)
+    (then-both (unless (hasLength (linkAt s (links s)) s) 3 (length s)) _ (last-go (hasLength (linkAt s (links s)) s) 3 (length s) c) (last-go (narrowCount (parts s)) 4 5 d)))
 
 pub sheet-passes : (s : List ℕ) → checkHead s ≡ accepted → checkNames (nameOf s) (nameAt s) (parts s) ≡ accepted → legal (parts s) (linksOf s) ≡ true
     → checkSheet s ≡ accepted

@@ -1,4 +1,3 @@
 pub mod Answers
-pub mod Model
 pub mod Network
 pub mod Sheet

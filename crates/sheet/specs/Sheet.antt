@@ -57,17 +57,19 @@ unfoldable pub linksOf : List ℕ → List Link
 unfolding listOf linkOf
 linksOf s = listOf (linkOf s) (links s)
 
--- ---- 1 to 3: the head
+-- ---- 1 to 3: the head, with the tests that other forms of bytes begin with too
 
--- the first three bytes, of a sheet PLS
+-- the first three bytes
 unfoldable pub hasMark : ℕ → ℕ → ℕ → List ℕ → Bool
 hasMark a b c s = leb 3 (length s) && (eqb (byte s 0) a && (eqb (byte s 1) b && eqb (byte s 2) c))
 
-unfoldable pub hasVersion : List ℕ → Bool
-hasVersion s = leb 5 (length s) && eqb (version s) 1
+-- version v
+unfoldable pub hasVersion : ℕ → List ℕ → Bool
+hasVersion v s = leb 5 (length s) && eqb (version s) v
 
-unfoldable pub hasLength : List ℕ → Bool
-hasLength s = leb headLength (length s) && eqb (length s) (linkAt s (links s))
+-- a whole head, and n bytes in all
+unfoldable pub hasLength : ℕ → List ℕ → Bool
+hasLength n s = leb headLength (length s) && eqb (length s) n
 
 -- ---- the whole sheet: 1 to 4, names in order, then links in order with 6 to 9 at each
 
@@ -75,8 +77,8 @@ unfoldable pub checkHead : List ℕ → Verdict
 unfolding hasMark hasVersion hasLength narrowCount unless _then_
 checkHead s =
     unless (hasMark 80 76 83 s) 1 0
-    then unless (hasVersion s) 2 3
-    then unless (hasLength s) 3 (length s)
+    then unless (hasVersion 1 s) 2 3
+    then unless (hasLength (linkAt s (links s)) s) 3 (length s)
     then unless (narrowCount (parts s)) 4 5
 
 unfoldable pub checkLinkAt : List ℕ → ℕ → Verdict

@@ -132,7 +132,7 @@ mark-bytes s h =
       eqb-true (byte s 2) 83 (and-right (eqb (byte s 1) 76) (eqb (byte s 2) 83) k),
     )
 
-version-word : (s : List ℕ) → hasVersion s ≡ true → twoAt s 3 ≡ 1
+version-word : (s : List ℕ) → hasVersion 1 s ≡ true → twoAt s 3 ≡ 1
 unfolding hasVersion
 version-word s h = eqb-true (twoAt s 3) 1 (and-right (leb 5 (length s)) (eqb (twoAt s 3) 1) h)
 
@@ -150,13 +150,13 @@ head-back s b e =
     let e₅ : parts s % 256 ≡ byte s 5 = omega arith in
     let e₆ : links s / 256 % 256 ≡ byte s 6 = omega arith in
     let e₇ : links s % 256 ≡ byte s 7 = omega arith in
-    ap (λ (t : List ℕ). t ++ drop headLength s) (head-bytes (parts s) (links s)) ∙ cc (eight s (length-least s (head-length s e)))
+    ap (λ (t : List ℕ). t ++ drop headLength s) (head-bytes (parts s) (links s)) ∙ cc (eight s (length-least _ s (head-length s e)))
 
 module _ (s : List ℕ) (n : Network) (t : Twin s n) (b : Bytes s) (e : checkHead s ≡ accepted) where
   twin-rest : n .names ++ linksBytes (linkIn n) (linksIn n) ≡ drop headLength s
   unfolding linksOf
   twin-rest =
-      let size : length s ≡ linkAt s (links s) = length-is s (head-length s e) in
+      let size : length s ≡ linkAt s (links s) = length-is _ s (head-length s e) in
       ap₂ (λ (x : List ℕ) (y : List Link). x ++ flatten (map linkBytes y)) (sym (t .named)) (sym (twin-links s n t))
       ∙ ap (λ (x : List ℕ). take (8 * parts s) (drop headLength s) ++ x)
       (links-back s b size (links s) (omega arith)
@@ -170,7 +170,7 @@ module _ (s : List ℕ) (n : Network) (t : Twin s n) (b : Bytes s) (e : checkHea
 
 pub sheet-again : (s : List ℕ) → Bytes s → checkSheet s ≡ accepted → (checkNetwork (networkOf s) ≡ accepted) × (sheetOf (networkOf s) ≡ s)
 sheet-again s b e =
-    let size : length s ≡ linkAt s (links s) = length-is s (sheet-length s e) in
+    let size : length s ≡ linkAt s (links s) = length-is _ s (sheet-length s e) in
     let t = read-twin s size in
     (twin-network s (networkOf s) t (read-shape s size) e, twin-written s (networkOf s) t b (sheet-head s e))
 
@@ -265,14 +265,14 @@ module _ (n : Network) (held : Held n) (e : checkNetwork n ≡ accepted) where
       (and-intro (eqb (byte s 1) 76) (eqb (byte s 2) 83) (eq-eqb (byte s 1) 76 (ap (λ (l : List ℕ). byte l 1) (sheet-bytes n)))
       (eq-eqb (byte s 2) 83 (ap (λ (l : List ℕ). byte l 2) (sheet-bytes n)))))
 
-  write-version : hasVersion (sheetOf n) ≡ true
+  write-version : hasVersion 1 (sheetOf n) ≡ true
   unfolding hasVersion
   write-version =
       let s = sheetOf n in
       and-intro (leb 5 (length s)) (eqb (twoAt s 3) 1) (le-leb 5 (length s) (omega (arith, sheet-size n)))
       (eq-eqb (twoAt s 3) 1 (ap (λ (l : List ℕ). twoAt l 3) (sheet-bytes n)))
 
-  write-length : hasLength (sheetOf n) ≡ true
+  write-length : hasLength (linkAt (sheetOf n) (links (sheetOf n))) (sheetOf n) ≡ true
   unfolding hasLength
   write-length =
       let s = sheetOf n in

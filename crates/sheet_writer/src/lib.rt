@@ -9,10 +9,10 @@ ghost use Rattle.sets.specs.Value.{width};
 ghost use Rattle.percolation.specs.Links.{link};
 ghost use Rattle.sheet.specs.Sheet.{headLength, sheetLength, listOf};
 ghost use Rattle.sheet.specs.Network.{network};
-ghost use Rattle.sheet.specs.Model.{verdict};
+ghost use Rattle.answers.specs.Model.{verdict};
 ghost use Rattle.sheet_writer.specs.Writing.{linkIn, linkBytes, headBytes, sheetOf, hasShape, checkLinkIn, checkNetwork, WriteMeets};
 use answers::Answer;
-use sheet::Tried;
+use answers::Tried;
 
 fn wide(w: u16) -> usize
     ensures { λ r. ⌜ (r ≡ w) × (r < 65536) ⌝ }

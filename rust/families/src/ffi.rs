@@ -68,6 +68,13 @@ extern "C" {
         out_length: usize,
     ) -> Outcome;
 
+    pub fn families_dump_sheet(
+        dump: *const u8,
+        dump_length: usize,
+        out: *mut u8,
+        out_length: usize,
+    ) -> Outcome;
+
     pub fn families_name(sheet: *const u8, sheet_length: usize, part: usize) -> Outcome;
 
     pub fn families_slot_bound(p: usize, k: usize) -> Outcome;

@@ -79,6 +79,11 @@ pub fn write(
     }
 }
 
+/// Makes a sheet from a sensor dump; `count` is its length in bytes.
+pub fn dump_sheet(dump: &[u8], out: &mut [u8]) -> Outcome {
+    unsafe { ffi::families_dump_sheet(dump.as_ptr(), dump.len(), out.as_mut_ptr(), out.len()) }
+}
+
 /// Finds a part's name; `count` is where its eight bytes start.
 pub fn name(sheet: &[u8], part: usize) -> Outcome {
     unsafe { ffi::families_name(sheet.as_ptr(), sheet.len(), part) }

@@ -20,7 +20,7 @@ pub use communities::{
 pub use lent::Run;
 pub use refused::Refused;
 pub use sequential::Sequential;
-pub use sheet::{name, read, write, Network};
+pub use sheet::{from_dump, name, read, write, Network};
 pub use tables::{Space, Tables, TablesMut, TablesRef, MOST_SLOTS};
 
 /// The most slots that the sequential run can need for p parts: C(p, k-1),

@@ -3,15 +3,15 @@
 use std::error::Error;
 use std::fmt;
 
-/// Why a call gave no answer, and at which byte of the sheet (0 where the
-/// cause lies in no sheet).
+/// Why a call gave no answer, and at which byte of the sheet or dump (0
+/// where the cause lies in neither).
 #[derive(Clone, Copy, Debug, PartialEq, Eq)]
 pub struct Refused {
     pub number: u8,
     pub place: usize,
 }
 
-const SENTENCES: [&str; 16] = [
+const SENTENCES: [&str; 18] = [
     "mark: under 3 bytes or not PLS",
     "version: under 5 bytes or not 1",
     "length: under 8 bytes or not 8 + 8p + 4m; \
@@ -30,6 +30,8 @@ const SENTENCES: [&str; 16] = [
     "a name asked for a part not below p",
     "too few slots",
     "an output is shorter than its part of the answer",
+    "a dump's mark is not PRD, its version not 1, or its length not 8 + 8p + 8n",
+    "a dump's row has a part not below p",
 ];
 
 impl Refused {

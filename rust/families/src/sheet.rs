@@ -1,4 +1,4 @@
-//! Link sheets: reading, writing, names.
+//! Link sheets: reading, writing, names; sheets made from dumps.
 
 use crate::lent;
 use crate::refused::Refused;
@@ -13,7 +13,7 @@ pub struct Network {
     pub weights: Vec<u16>,
 }
 
-/// The part count that a sheet claims, 0 where it is too short to have one.
+/// The part count that a sheet or dump claims, 0 where it is too short to have one.
 pub(crate) fn claimed_parts(sheet: &[u8]) -> usize {
     sheet.get(5).map_or(0, |&p| usize::from(p))
 }
@@ -56,6 +56,17 @@ pub fn write(network: &Network) -> Result<Vec<u8>, Refused> {
         &mut sheet,
     )
     .accepted()?;
+    sheet.truncate(outcome.count);
+    Ok(sheet)
+}
+
+/// The sheet of a sensor dump: a pair's weight is the number of rows that
+/// hold both its parts.
+pub fn from_dump(dump: &[u8]) -> Result<Vec<u8>, Refused> {
+    let parts = claimed_parts(dump);
+    // A link for each pair at the most.
+    let mut sheet = vec![0; 8 + 8 * parts + 2 * parts * parts.saturating_sub(1)];
+    let outcome = lent::dump_sheet(dump, &mut sheet).accepted()?;
     sheet.truncate(outcome.count);
     Ok(sheet)
 }

@@ -5,6 +5,7 @@ use std::cell::{OnceCell, RefCell};
 use std::collections::HashMap;
 use std::rc::Rc;
 
+use crate::dumps::{counted, parse_dump};
 use crate::fast::{self, Clique};
 use crate::network::{levels, listing_bytes, tree_bytes, Community, Network};
 use crate::sheets::{demand, good_part_count, parse, parse_lists, sheet_bytes, Refusal};
@@ -128,6 +129,17 @@ pub fn write(names: &[u8], lower: &[u16], higher: &[u16], weights: &[u16], out: 
         Err(refusal) => Expected::refused(refusal, Left::Untouched),
         Ok(network) => {
             let bytes = sheet_bytes(&network);
+            Expected::written(bytes.len(), bytes, out, Left::Untouched)
+        }
+    }
+}
+
+/// The sheet of a dump.
+pub fn dump_sheet(dump: &[u8], out: usize) -> Expected {
+    match parse_dump(dump) {
+        Err(refusal) => Expected::refused(refusal, Left::Untouched),
+        Ok(dump) => {
+            let bytes = sheet_bytes(&counted(&dump));
             Expected::written(bytes.len(), bytes, out, Left::Untouched)
         }
     }

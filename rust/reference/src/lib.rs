@@ -7,12 +7,14 @@
 //! - [`fast`]: bit sets and hashing, for up to 64 parts.
 //! - [`calls`], [`sheets`], [`steps`]: every check in its order, and so the
 //!   expected answer, output and tables of every call.
+//! - [`dumps`]: the sheet of a sensor dump.
 //! - [`published`]: published networks with their expected families.
 
 pub mod calls;
 pub mod definition;
+pub mod dumps;
 pub mod fast;
-mod json;
+pub mod json;
 pub mod network;
 pub mod published;
 pub mod random;

@@ -81,7 +81,8 @@ impl LinksSoFar {
     }
 }
 
-fn pair(bytes: &[u8]) -> u16 {
+/// The number in the first two bytes.
+pub fn pair(bytes: &[u8]) -> u16 {
     u16::from_be_bytes([bytes[0], bytes[1]])
 }
 

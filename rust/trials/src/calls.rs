@@ -109,6 +109,24 @@ impl Trials {
         });
     }
 
+    /// The sheet of a dump, with an output of so many bytes.
+    pub fn dump_sheet(&mut self, dump: &[u8], out: usize) {
+        self.dump_sheet_as(dump, out, &calls::dump_sheet(dump, out));
+    }
+
+    /// The sheet of a dump, whose answer is known.
+    pub fn dump_sheet_as(&mut self, dump: &[u8], out: usize, expected: &Expected) {
+        let dump = Guarded::holding(&mut self.random, dump);
+        let mut output = Guarded::junk(&mut self.random, out);
+        let found = lent::dump_sheet(dump.get(), output.get_mut());
+        let verdict = check_outcome(found, expected.outcome)
+            .and_then(|()| output.check("output", &expected.output))
+            .and_then(|()| dump.check("dump", &[]));
+        self.expect(verdict, || {
+            format!("dump sheet, output {out}, dump {}", hex(dump.get()))
+        });
+    }
+
     pub fn name(&mut self, judge: &Judge, part: usize) {
         let sheet = Guarded::holding(&mut self.random, judge.sheet());
         let found = lent::name(sheet.get(), part);

@@ -8,7 +8,6 @@ use Rattle.sets.specs.Value.{num}
 use Rattle.sets.proofs.Tables.{rows-length}
 use Rattle.percolation.specs.Links.{Link}
 use Rattle.sheet.specs.Sheet.{parts, linksOf}
-use Rattle.sheet.proofs.Sound.{sheet-length}
 use Rattle.slots.proofs.Lengths.{room-within}
 use Rattle.meeting.proofs.Calls.{meet-short}
 use Rattle.meeting_maximal.proofs.Levels.{Counted, counted-none, level-past, level-short, level-next, levels-never, levels-met}
@@ -29,7 +28,7 @@ loop-holds : tie.Need-loop-holds Inv-loop μ-loop
 loop-holds c = (omega arith, refl, counted-none _ _ _ _ _ _ _ _ refl refl)
 
 link-requires : tie.Need-link-requires Inv-loop μ-loop
-link-requires c κs = let a = c .before .before .before .before .before .before in (sheet-length _ (a .pre .0), omega (arith, c .loop-test .taken, a .pre .2))
+link-requires c κs = let a = c .before .before .before .before .before .before in omega (arith, c .loop-test .taken, a .pre .2)
 
 cast-w : tie.Need-cast-w Inv-loop μ-loop
 cast-w c = omega (arith, c .before .link .ensures .1 .1 .1)

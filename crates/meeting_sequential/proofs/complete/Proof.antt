@@ -3,7 +3,6 @@ use native.Mathlib.Omega.{arith}
 use borrow.Author.Needs.{needs}
 use Prim.Native.Nat.{_≤_}
 use Rattle.sets.specs.Value.{num}
-use Rattle.sheet.proofs.Sound.{sheet-length}
 use Rattle.meeting_sequential.proofs.Turns.{Later, later-none, later-more, complete-here, complete-none}
 use Rattle.meeting_sequential.proofs.complete.Statement.{statement}
 use Rattle.meeting_sequential.proofs.complete.Tie as tie
@@ -21,7 +20,7 @@ sub-i : tie.Need-sub-i Inv-loop μ-loop
 sub-i c = omega arith
 
 link-requires : tie.Need-link-requires Inv-loop μ-loop
-link-requires c κs = (sheet-length _ (c .before .before .before .pre .0), omega (arith, c .loop-test .taken, c .before .loop .inv .0, c .before .before .before .pre .1))
+link-requires c κs = omega (arith, c .loop-test .taken, c .before .loop .inv .0, c .before .before .before .pre .1)
 
 has-both-requires : tie.Need-has-both-requires Inv-loop μ-loop
 has-both-requires c κs = search needs

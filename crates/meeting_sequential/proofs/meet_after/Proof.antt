@@ -5,7 +5,6 @@ use borrow.Author.Needs.{needs}
 use Prim.Native.Nat.{ℕ, _-_}
 use lib.ListN.{length}
 use Rattle.slots.specs.Tables.{tables}
-use Rattle.sheet.proofs.Sound.{sheet-length}
 use Rattle.meeting_sequential.proofs.Turns.{Turn, turn-begin, turn-met, turn-never, turn-more}
 use Rattle.meeting_sequential.proofs.meet_after.Statement.{statement}
 use Rattle.meeting_sequential.proofs.meet_after.Tie as tie
@@ -38,7 +37,7 @@ sub-link : tie.Need-sub-link Inv-loop μ-loop
 sub-link c = let t = (c .before .before .before .before .before .loop .inv .0 _ _ (turn-begin _ (c .before .before .before .before .before .before .before .before .before .before .before .before .before .before .before .before .pre .0) _ (c .before .before .before .before .before .before .before .before .before .before .before .before .before .before .before .before .pre .2) _ _ _ _ _ (c .before .before .before .before .before .before .before .before .before .before .before .before .before .before .before .before .pre .3) _ _ (c .before .before .before .before .before .before .before .before .slot-of .ensures) (c .before .before .before .before .before .before .slot-of2 .ensures))) in omega (arith, t .taken .some)
 
 link-requires : tie.Need-link-requires Inv-loop μ-loop
-link-requires c κs = let t = (c .before .before .before .before .before .loop .inv .0 _ _ (turn-begin _ (c .before .before .before .before .before .before .before .before .before .before .before .before .before .before .before .before .pre .0) _ (c .before .before .before .before .before .before .before .before .before .before .before .before .before .before .before .before .pre .2) _ _ _ _ _ (c .before .before .before .before .before .before .before .before .before .before .before .before .before .before .before .before .pre .3) _ _ (c .before .before .before .before .before .before .before .before .slot-of .ensures) (c .before .before .before .before .before .before .slot-of2 .ensures))) in (sheet-length _ (c .before .before .before .before .before .before .before .before .before .before .before .before .before .before .before .before .pre .0), omega (arith, t .taken .some, t .taken .within))
+link-requires c κs = let t = (c .before .before .before .before .before .loop .inv .0 _ _ (turn-begin _ (c .before .before .before .before .before .before .before .before .before .before .before .before .before .before .before .before .pre .0) _ (c .before .before .before .before .before .before .before .before .before .before .before .before .before .before .before .before .pre .2) _ _ _ _ _ (c .before .before .before .before .before .before .before .before .before .before .before .before .before .before .before .before .pre .3) _ _ (c .before .before .before .before .before .before .before .before .slot-of .ensures) (c .before .before .before .before .before .before .slot-of2 .ensures))) in omega (arith, t .taken .some, t .taken .within)
 
 cast-t31 : tie.Need-cast-t31 Inv-loop μ-loop
 cast-t31 c = search needs

@@ -4,7 +4,7 @@ use Prim.Native.Nat.{_≤_, _-_}
 use lib.ListN.{take}
 use Rattle.percolation.specs.Links.{Link}
 use Rattle.sheet.specs.Sheet.{linksOf}
-use Rattle.sheet.proofs.Sound.{sheet-length, sheet-legal}
+use Rattle.sheet.proofs.Sound.{sheet-legal}
 use Rattle.runs.proofs.Falling.{AllHeavy, none-heavy}
 use Rattle.runs.proofs.InSheet.{sheet-given}
 use Rattle.runs.proofs.LinkList.{weighs-more, weighs-less, weighs-all}
@@ -21,7 +21,7 @@ loop-holds : tie.Need-loop-holds Inv-loop μ-loop
 loop-holds c = (omega arith, none-heavy _)
 
 link-requires : tie.Need-link-requires Inv-loop μ-loop
-link-requires c κs = (sheet-length _ (c .before .before .before .pre .0), omega (arith, c .loop-test .taken, c .before .before .before .pre .1))
+link-requires c κs = omega (arith, c .loop-test .taken, c .before .before .before .pre .1)
 
 returns : tie.Need-returns Inv-loop μ-loop
 returns c =

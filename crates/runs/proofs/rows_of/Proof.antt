@@ -7,7 +7,6 @@ use lib.ListN.{length, take, drop}
 use Rattle.sets.specs.Value.{noRows}
 use Rattle.sets.proofs.Tables.{length-none}
 use Rattle.sheet.specs.Sheet.{linksOf}
-use Rattle.sheet.proofs.Sound.{sheet-length}
 use Rattle.runs.specs.Model.{rowsWith}
 use Rattle.runs.proofs.InSheet.{sheet-given}
 use Rattle.runs.proofs.LinkList.{rows-next, rows-end}
@@ -30,7 +29,7 @@ loop-holds c =
     (omega arith, ap (λ (R : List ℕ). rowsWith R (take (c .before .before .args .n) (linksOf s))) (c .no-rows .ensures), ap length (c .no-rows .ensures))
 
 link-requires : tie.Need-link-requires Inv-loop μ-loop
-link-requires c κs = (sheet-length _ (c .before .before .before .before .pre .0), omega (arith, c .loop-test .taken, c .before .before .before .before .pre .1))
+link-requires c κs = omega (arith, c .loop-test .taken, c .before .before .before .before .pre .1)
 
 slice-aggregate-add-link : tie.Need-slice-aggregate-add-link Inv-loop μ-loop
 slice-aggregate-add-link c = sym (c .before .before .before .loop .inv .2 ∙ length-none)

@@ -5,7 +5,6 @@ use lib.ListN.{length, take, drop}
 use Rattle.percolation.specs.Links.{Link}
 use Rattle.slots.specs.Tables.{tables, room}
 use Rattle.sheet.specs.Sheet.{linksOf}
-use Rattle.sheet.proofs.Sound.{sheet-length}
 use Rattle.runs.specs.Model.{rowsWith, tookLinks}
 use Rattle.runs.proofs.InSheet.{sheet-given, link-ends}
 use Rattle.runs.proofs.LinkList.{rows-next, rows-end, tables-next, tables-end}
@@ -27,7 +26,7 @@ loop-holds : tie.Need-loop-holds Inv-loop μ-loop
 loop-holds c = (omega (arith, c .before .before .before .before .before .before .pre), omega (arith, c .before .before .before .before .before .before .pre), refl, refl, refl, refl, refl, refl, refl)
 
 link-requires : tie.Need-link-requires Inv-loop μ-loop
-link-requires c κs = (sheet-length _ (c .before .before .before .before .before .before .before .before .pre .0), omega (arith, c .loop-test .taken, c .before .before .before .before .before .before .before .before .pre .2))
+link-requires c κs = omega (arith, c .loop-test .taken, c .before .before .before .before .before .before .before .before .pre .2)
 
 take-link-requires : tie.Need-take-link-requires Inv-loop μ-loop
 take-link-requires c κs =

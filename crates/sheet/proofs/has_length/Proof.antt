@@ -1,11 +1,10 @@
 use borrow.Author.Needs.{needs}
-use mathlib.Core.Path.{ap, _∙_}
+use mathlib.Core.Path.{refl}
 use borrow.Author.Tests.{le-leb, lt-leb}
-use lib.Dec.{eqb}
 use lib.ListN.{length}
 use Prim.Native.Nat.{_<_, _≤_}
 use Rattle.sets.proofs.Tests.{and-stop, and-go}
-use Rattle.sheet.specs.Sheet.{headLength, linkAt, hasLength}
+use Rattle.sheet.specs.Sheet.{headLength, hasLength}
 use native.Mathlib.Omega.{arith}
 use Rattle.sheet.proofs.has_length.Statement.{statement}
 use Rattle.sheet.proofs.has_length.Tie as tie
@@ -17,21 +16,11 @@ returns : tie.Need-returns
 unfolding hasLength
 returns c = let l : length (c .before .before .before .args .s .now) < headLength = omega (arith, c .if1 .taken, c .before .head-length .ensures) in and-stop _ _ (lt-leb _ _ l)
 
-link-count-requires : tie.Need-link-count-requires
-link-count-requires c κs = search needs
-
-link-at-requires : tie.Need-link-at-requires
-link-at-requires c κs = search needs
-
 returns-2 : tie.Need-returns-2
 unfolding hasLength
 returns-2 c =
-    let s = c .before .before .before .before .before .args .s .now in
-    let l : headLength ≤ length s = omega (arith, c .before .before .if1 .left, c .before .before .before .head-length .ensures) in
-    and-go _ _ (le-leb _ _ l)
-    (ap (eqb (length s)) (c .link-at .ensures .0 ∙ ap (linkAt s) (c .before .link-count .ensures .0)))
+    let l : headLength ≤ length (c .before .before .before .args .s .now) = omega (arith, c .if1 .left, c .before .head-length .ensures) in
+    and-go _ _ (le-leb _ _ l) refl
 
 pub has-length-spec : {M : Type 1} → statement M
-has-length-spec =
-    tie.close
-    (tie.spec head-length-requires returns link-count-requires link-at-requires returns-2)
+has-length-spec = tie.close (tie.spec head-length-requires returns returns-2)

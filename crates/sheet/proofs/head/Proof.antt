@@ -1,67 +1,81 @@
-use mathlib.Core.Path.{sym, ap, _∙_}
-use Rattle.answers.proofs.Laws.{stop, go, last-stop, last-go}
-use Rattle.percolation.specs.Ranges.{narrowCount}
-use borrow.Author.Tests.{not-true, not-false}
-use Rattle.sheet.specs.Sheet.{checkHead}
 use borrow.Author.Needs.{needs}
+use mathlib.Core.Path.{ap, ap₂, _∙_}
+use lib.ListN.{length}
+use Rattle.answers.specs.Verdict.{_then_, unless}
+use Rattle.percolation.specs.Ranges.{narrowCount}
+use Rattle.sheet.specs.Sheet.{linkAt, hasLength, checkHead}
 use Rattle.sheet.proofs.head.Statement.{statement}
 use Rattle.sheet.proofs.head.Tie as tie
 
-has-mark-requires : tie.Need-has-mark-requires
-has-mark-requires c κs = search needs
+link-count-requires : tie.Need-link-count-requires
+link-count-requires c κs = search needs
 
-returns : tie.Need-returns
-unfolding checkHead
-returns c = sym (stop _ _ _ _ (sym (c .before .has-mark .ensures) ∙ not-true _ (c .if1 .taken)))
-
-has-version-requires : tie.Need-has-version-requires
-has-version-requires c κs = search needs
-
-returns-2 : tie.Need-returns-2
-unfolding checkHead
-returns-2 c = sym (go _ _ _ _ (sym (c .before .before .before .has-mark .ensures) ∙ not-false _ (c .before .before .if1 .left)) ∙ stop _ _ _ _ (sym (c .before .has-version .ensures) ∙ not-true _ (c .if2 .taken)))
-
-has-length-requires : tie.Need-has-length-requires
-has-length-requires c κs = search needs
-
-returns-3 : tie.Need-returns-3
-unfolding checkHead
-returns-3 c =
-    sym (go _ _ _ _ (sym (c .before .before .before .before .before .has-mark .ensures) ∙ not-false _ (c .before .before .before .before .if1 .left)) ∙ go _ _ _ _ (sym (c .before .before .before .has-version .ensures) ∙ not-false _ (c .before .before .if2 .left)) ∙ stop _ _ _ _ (sym (c .before .has-length .ensures) ∙ not-true _ (c .if3 .taken)))
+link-at-requires : tie.Need-link-at-requires
+link-at-requires c κs = search needs
 
 part-count-requires : tie.Need-part-count-requires
 part-count-requires c κs = search needs
 
+has-mark-requires : tie.Need-has-mark-requires
+has-mark-requires c κs = search needs
+
+unless-requires : tie.Need-unless-requires
+unless-requires c κs = search needs
+
+has-version-requires : tie.Need-has-version-requires
+has-version-requires c κs = search needs
+
+unless-requires-2 : tie.Need-unless-requires-2
+unless-requires-2 c κs = search needs
+
+has-length-requires : tie.Need-has-length-requires
+has-length-requires c κs = search needs
+
+unless-requires-3 : tie.Need-unless-requires-3
+unless-requires-3 c κs = search needs
+
 narrow-count-requires : tie.Need-narrow-count-requires
 narrow-count-requires c κs = search needs
 
-returns-4 : tie.Need-returns-4
-unfolding checkHead
-returns-4 c =
-    sym (go _ _ _ _ (sym (c .before .before .before .before .before .before .before .before .has-mark .ensures) ∙ not-false _ (c .before .before .before .before .before .before .before .if1 .left))
-    ∙ go _ _ _ _ (sym (c .before .before .before .before .before .before .has-version .ensures) ∙ not-false _ (c .before .before .before .before .before .if2 .left))
-    ∙ go _ _ _ _ (sym (c .before .before .before .before .has-length .ensures) ∙ not-false _ (c .before .before .before .if3 .left))
-    ∙ last-stop _ _ _ (sym (c .before .narrow-count .ensures ∙ ap narrowCount (c .before .before .part-count .ensures .0)) ∙ not-true _ (c .if4 .taken)))
+unless-requires-4 : tie.Need-unless-requires-4
+unless-requires-4 c κs = search needs
 
-returns-5 : tie.Need-returns-5
+then-requires : tie.Need-then-requires
+then-requires c κs = search needs
+
+then-requires-2 : tie.Need-then-requires-2
+then-requires-2 c κs = search needs
+
+then-requires-3 : tie.Need-then-requires-3
+then-requires-3 c κs = search needs
+
+returns : tie.Need-returns
 unfolding checkHead
-returns-5 c =
-    sym (go _ _ _ _ (sym (c .before .before .before .before .before .before .before .before .has-mark .ensures) ∙ not-false _ (c .before .before .before .before .before .before .before .if1 .left))
-    ∙ go _ _ _ _ (sym (c .before .before .before .before .before .before .has-version .ensures) ∙ not-false _ (c .before .before .before .before .before .if2 .left))
-    ∙ go _ _ _ _ (sym (c .before .before .before .before .has-length .ensures) ∙ not-false _ (c .before .before .before .if3 .left))
-    ∙ last-go _ _ _ (sym (c .before .narrow-count .ensures ∙ ap narrowCount (c .before .before .part-count .ensures .0)) ∙ not-false _ (c .if4 .left)))
+returns c =
+    let s = c .before .before .before .before .before .before .before .before .before .before .before .before .before .before .before .args .s .now in
+    let mark = c .before .before .before .before .before .before .before .before .before .unless .ensures ∙ ap (λ b. unless b 1 0) (c .before .before .before .before .before .before .before .before .before .before .has-mark .ensures) in
+    let version = c .before .before .before .before .before .before .before .unless2 .ensures ∙ ap (λ b. unless b 2 3) (c .before .before .before .before .before .before .before .before .has-version .ensures) in
+    let long = c .before .before .before .before .before .before .before .before .before .before .before .before .link-at .ensures .0 ∙ ap (linkAt s) (c .before .before .before .before .before .before .before .before .before .before .before .before .before .link-count .ensures .0) in
+    let size = c .before .before .before .before .before .unless3 .ensures ∙ ap (λ b. unless b 3 (length s)) (c .before .before .before .before .before .before .has-length .ensures ∙ ap (λ n. hasLength n s) long) in
+    let count = c .before .before .before .unless4 .ensures ∙ ap (λ b. unless b 4 5) (c .before .before .before .before .narrow-count .ensures ∙ ap narrowCount (c .before .before .before .before .before .before .before .before .before .before .before .part-count .ensures .0)) in
+    c .then3 .ensures ∙ ap₂ _then_ mark (c .before .then2 .ensures ∙ ap₂ _then_ version (c .before .before .then .ensures ∙ ap₂ _then_ size count))
 
 pub head-spec : {M : Type 1} → statement M
 head-spec =
     tie.close
     (tie.spec
-    has-mark-requires
-    returns
-    has-version-requires
-    returns-2
-    has-length-requires
-    returns-3
+    link-count-requires
+    link-at-requires
     part-count-requires
+    has-mark-requires
+    unless-requires
+    has-version-requires
+    unless-requires-2
+    has-length-requires
+    unless-requires-3
     narrow-count-requires
-    returns-4
-    returns-5)
+    unless-requires-4
+    then-requires
+    then-requires-2
+    then-requires-3
+    returns)

@@ -9,7 +9,7 @@ use Rattle.sheet.proofs.link.Statement.{statement}
 use Rattle.sheet.proofs.link.Tie as tie
 
 link-at-requires : tie.Need-link-at-requires
-link-at-requires c κs = omega (arith, c .shared-slice-known .given 6, c .shared-slice-known .given 7, c .before .pre .1)
+link-at-requires c κs = omega (arith, c .shared-slice-known .given 6, c .shared-slice-known .given 7, c .before .pre)
 
 byte-at-requires : tie.Need-byte-at-requires
 byte-at-requires c κs = search needs

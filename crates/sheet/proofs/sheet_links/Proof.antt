@@ -28,7 +28,7 @@ loop-holds : tie.Need-loop-holds Inv-loop μ-loop
 loop-holds c = (omega arith, subst⁻¹ (λ (R : List ℕ). Passed (linkOf (c .before .before .args .s .now)) (linkAt (c .before .before .args .s .now)) (parts (c .before .before .args .s .now)) 0 R 65535) (c .no-rows .ensures) (passed-none _ _ _), ap length (c .no-rows .ensures))
 
 link-requires : tie.Need-link-requires Inv-loop μ-loop
-link-requires c κs = (c .before .before .before .before .pre .0, omega (arith, c .loop-test .taken, c .before .before .before .before .pre .1 .1 .0))
+link-requires c κs = omega (arith, c .loop-test .taken, c .before .before .before .before .pre .1 .0)
 
 slice-aggregate-link-number : tie.Need-slice-aggregate-link-number Inv-loop μ-loop
 slice-aggregate-link-number c = sym (c .before .before .before .loop .inv .2 ∙ length-none)
@@ -37,7 +37,7 @@ link-number-requires : tie.Need-link-number-requires Inv-loop μ-loop
 link-number-requires c κs = search needs
 
 link-at-requires : tie.Need-link-at-requires Inv-loop μ-loop
-link-at-requires c κs = omega (arith, c .before .before .before .before .before .before .before .shared-slice-known .given 6, c .before .before .before .before .before .before .before .shared-slice-known .given 7, c .before .before .before .before .loop-test .taken, c .before .before .before .before .before .before .before .before .pre .1 .1 .0)
+link-at-requires c κs = omega (arith, c .before .before .before .before .before .before .before .shared-slice-known .given 6, c .before .before .before .before .before .before .before .shared-slice-known .given 7, c .before .before .before .before .loop-test .taken, c .before .before .before .before .before .before .before .before .pre .1 .0)
 
 returns : tie.Need-returns Inv-loop μ-loop
 unfolding checkLinkAt
@@ -45,10 +45,10 @@ returns c =
     let a = c .before .before .before .before .before .before .before .before .before .args in
     let l = c .before .before .before .before .before .before .loop in
     let s = a .s .now in
-    let e = c .before .before .before .before .before .before .before .before .before .pre .1 .0 in
+    let e = c .before .before .before .before .before .before .before .before .before .pre .0 in
     let n = c .before .before .link-number in
     ap (refused (n .result)) (c .link-at .ensures .0)
-    ∙ sym (passed-stop (linkOf s) (linkAt s) (parts s) (l .j) (l .seen) (l .before) (omega (arith, e, c .before .before .before .before .before .before .before .before .before .pre .1 .1 .1)) (l .inv .1) _ (c .before .before .before .before .link .ensures .0) (c .before .before .before .before .link .ensures .1 .1 .1) (n .result)
+    ∙ sym (passed-stop (linkOf s) (linkAt s) (parts s) (l .j) (l .seen) (l .before) (omega (arith, e, c .before .before .before .before .before .before .before .before .before .pre .1 .1)) (l .inv .1) _ (c .before .before .before .before .link .ensures .0) (c .before .before .before .before .link .ensures .1 .1 .1) (n .result)
     (n .ensures ∙ ap (λ (p : ℕ). linkNumber p (l .seen) (l .before) (linkRow (c .before .before .before .before .link .result))) e) (a .m) (c .before .before .before .before .before .loop-test .taken) (c .before .if1 .taken))
 
 slice-aggregate-add-link : tie.Need-slice-aggregate-add-link Inv-loop μ-loop
@@ -68,11 +68,11 @@ loop-again c =
     let a = c .before .before .before .before .before .before .before .before .before .before .before .args in
     let l = c .before .before .before .before .before .before .before .before .loop in
     let s = a .s .now in
-    let e = c .before .before .before .before .before .before .before .before .before .before .before .pre .1 .0 in
+    let e = c .before .before .before .before .before .before .before .before .before .before .before .pre .0 in
     let n = c .before .before .before .before .link-number in (
       omega arith,
       subst⁻¹ (λ (R : List ℕ). Passed (linkOf s) (linkAt s) (parts s) (l .j + 1) R (c .before .before .before .before .before .before .link .result .weight)) (c .before .add-link .ensures)
-          (passed-more (linkOf s) (linkAt s) (parts s) (l .j) (l .seen) (l .before) (omega (arith, e, c .before .before .before .before .before .before .before .before .before .before .before .pre .1 .1 .1)) (l .inv .1) _ (c .before .before .before .before .before .before .link .ensures .0) (c .before .before .before .before .before .before .link .ensures .1 .1 .1) (n .result)
+          (passed-more (linkOf s) (linkAt s) (parts s) (l .j) (l .seen) (l .before) (omega (arith, e, c .before .before .before .before .before .before .before .before .before .before .before .pre .1 .1)) (l .inv .1) _ (c .before .before .before .before .before .before .link .ensures .0) (c .before .before .before .before .before .before .link .ensures .1 .1 .1) (n .result)
           (n .ensures ∙ ap (λ (p : ℕ). linkNumber p (l .seen) (l .before) (linkRow (c .before .before .before .before .before .before .link .result))) e) (c .before .before .before .if1 .left)),
       c .before .add-link .kept .0 ∙ l .inv .2,
     )

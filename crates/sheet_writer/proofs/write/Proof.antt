@@ -8,7 +8,7 @@ use lib.Dec.{leb}
 use lib.ListN.{length, drop}
 use Rattle.answers.specs.Answers.{counts}
 use Rattle.answers.proofs.Laws.{then-stop, then-go, last-go, last-stop, say-accepted, say-refused, written-refused, written-accepted}
-use Rattle.sheet.specs.Model.{verdict}
+use Rattle.answers.specs.Model.{verdict}
 use Rattle.sheet.specs.Network.{network}
 use Rattle.sheet_writer.specs.Writing.{sheetOf, checkWrite}
 use Rattle.sheet_writer.proofs.Shape.{sheet-size}

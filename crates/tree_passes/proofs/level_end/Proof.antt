@@ -1,5 +1,4 @@
 use Rattle.tree_passes.proofs.SheetPasses.{level-on}
-use Rattle.sheet.proofs.Sound.{sheet-length}
 use Rattle.percolation.specs.Links.{Link}
 use mathlib.Core.Path.{ap}
 use native.Mathlib.Omega.{arith}
@@ -8,7 +7,7 @@ use Rattle.tree_passes.proofs.level_end.Statement.{statement}
 use Rattle.tree_passes.proofs.level_end.Tie as tie
 
 link-requires : tie.Need-link-requires
-link-requires c κs = (sheet-length _ (c .before .pre .0), omega (arith, c .before .pre .1))
+link-requires c κs = omega (arith, c .before .pre .1)
 
 cast-heavy : tie.Need-cast-heavy
 cast-heavy c = search needs

@@ -4,7 +4,6 @@ use Rattle.tree_passes.proofs.TreeWritten.{Writing, writing-step}
 use Rattle.runs.proofs.Admitted.{call-sheet}
 use Rattle.slots.proofs.Lengths.{room-within}
 use Rattle.slots.specs.Tables.{tables, room}
-use Rattle.sheet.proofs.Sound.{sheet-length}
 use Rattle.sheet.specs.Sheet.{parts, linksOf}
 use Rattle.percolation.specs.Links.{Link}
 use Rattle.sets.proofs.Tables.{length-none}
@@ -50,7 +49,7 @@ loop-holds c =
 link-requires : tie.Need-link-requires Inv-loop μ-loop
 link-requires c κs =
     let z = c .before .before .before .before .before .before .before .before .before .before .before .before .before .before .before .before .before .before .before .before .before .before in
-    (sheet-length _ (call-sheet _ _ _ (z .pre .0)), omega (arith, c .loop-test .taken, z .pre .1))
+    omega (arith, c .loop-test .taken, z .pre .1)
 
 level-end-requires : tie.Need-level-end-requires Inv-loop μ-loop
 level-end-requires c κs =

@@ -1,0 +1,6 @@
+pub mod Counted
+pub mod Counting
+pub mod Examples
+pub mod PairCounts
+pub mod RowSums
+pub mod Sums

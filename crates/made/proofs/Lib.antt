@@ -1,0 +1,9 @@
+pub mod Examples
+pub mod InOrder
+pub mod PairNumbers
+pub mod Pairs
+pub mod Sheets
+pub mod Standing
+pub mod Sums
+pub mod Turns
+pub mod Weighed
