@@ -191,6 +191,55 @@ fn orders() {
     }
 }
 
+/// One more fault, or none where a byte happens to be good.
+fn spoil(random: &mut Random, bytes: &mut Vec<u8>, p: usize) {
+    let rows = 8 + 8 * p;
+    let byte = random.pick(&[0, 1, 32, 33, 127, 255]);
+    let place = match random.below(10) {
+        0 => random.below(3),
+        1 => 3 + random.below(2),
+        2 => 6 + random.below(2),
+        3 => return bytes.truncate(bytes.len() - random.below(2)),
+        4..=6 => 8 + random.below(8 * p + 1),
+        _ => rows + random.below(64),
+    };
+    if let Some(spoiled) = bytes.get_mut(place) {
+        *spoiled = byte;
+    }
+}
+
+/// Up to four faults at once, in the head, the counts, the names, the rows
+/// and the output: the first in the order of the checks stands.
+#[test]
+fn several_faults() {
+    let trials = &mut Trials::new("dumps' faults at once");
+    let mut told = [0; 19];
+    for case in 0..20_000 {
+        trials.case();
+        let random = &mut trials.random;
+        let mut dump = random_dump(random, 1 + case % 64, 8);
+        let p = match random.chance(80) {
+            true => dump.names.len(),
+            false => random.pick(&[0, 65, 66, 255]),
+        };
+        dump.names.resize(p, *b"A       ");
+        let mut bytes = dump_bytes(&dump);
+        for _ in 0..random.below(4) {
+            spoil(random, &mut bytes, p);
+        }
+        let out = random.pick(&[0, 40, 9_000]);
+        told[usize::from(dump_sheet(&bytes, out).outcome.number)] += 1;
+        trials.dump_sheet(&bytes, out);
+    }
+    for number in [0, 4, 5, 16, 17, 18] {
+        assert!(
+            told[number] > 500,
+            "{number} was told {} times",
+            told[number]
+        );
+    }
+}
+
 #[test]
 fn truncations_and_single_bits() {
     let trials = &mut Trials::new("dumps cut and damaged");
