@@ -15,7 +15,7 @@
  *    1 mark                2 version             3 length               4 part count not 1 to 64
  *    5 a name's form       6 a link's parts      7 weight 0             8 weight above the link before
  *    9 pair given before  10 k not 2 to 6       11 tables of unequal length
- *   12 a state outside its ranges               13 a set that is no k-clique of the sheet
+ *   12 a state outside its ranges               13 a set that is no k-clique of the sheet (families_family_mean: at t)
  *   14 a part not below the part count          15 too few slots        16 an output too short
  *   17 a dump's mark, version or length         18 a row with a part not below the part count
  * place is a byte of the sheet for 1 to 9 of a call that reads a sheet, a byte of the dump for 4, 5, 17 and 18 of
@@ -32,7 +32,7 @@ extern "C" {
 #endif
 
 /* The number of the latest change request that has landed, in order of landing; 0: the base. */
-#define FAMILIES_EDITION 1
+#define FAMILIES_EDITION 2
 
 /* On a refusal count and parts are 0. parts is 0 from every call but families_read. */
 typedef struct {
@@ -57,6 +57,12 @@ typedef struct {
     families_outcome outcome;
     families_state state;
 } families_started;
+
+/* The sum of a family's link weights, its whole quotient by their number, and the remainder. On a refusal they are 0. */
+typedef struct {
+    families_outcome outcome;
+    uint64_t sum, quotient, remainder;
+} families_mean;
 
 /* Reads a sheet's network into lent space: 8 bytes a name, and a number in each list for every link. count = links, parts = parts. */
 families_outcome families_read(
@@ -147,6 +153,19 @@ families_outcome families_meeting_sequential(
 
 families_outcome families_meeting_maximal(
     const uint8_t *sheet, size_t sheet_length, size_t k, uint64_t a, uint64_t b,
+    uint64_t *sets, size_t sets_length,
+    uint32_t *entries, size_t entries_length,
+    uint64_t *smallest, size_t smallest_length,
+    uint64_t *unions, size_t unions_length);
+
+/*
+ * The mean link weight of the family that the k-clique `clique` belongs to over links of weight t or more. Counted is each link that lies in some
+ * k-clique of this family; a link with both ends among the family's parts may lie in none. Every k-clique of one family gets the same answer.
+ * Refused in this order: the sheet (1 to 9), 10, 11, 13 for a set that is no k-clique at t, 15 for too few slots at t. Up to 13 the tables stay as
+ * they were; from 15 on, success too, they are zero. count = links, at least 1. C cuts a threshold above 65,535 silently.
+ */
+families_mean families_family_mean(
+    const uint8_t *sheet, size_t sheet_length, size_t k, uint16_t t, uint64_t clique,
     uint64_t *sets, size_t sets_length,
     uint32_t *entries, size_t entries_length,
     uint64_t *smallest, size_t smallest_length,

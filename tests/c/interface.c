@@ -1,14 +1,15 @@
-/* Calls every function of families.h on document 01's example P8 and prints what it answers; also a sheet that is refused. */
+/* Calls every function of families.h on document 01's examples P8 and P9 and prints what it answers; also a sheet that is refused. */
 #include <inttypes.h>
 #include <stdio.h>
 #include <string.h>
 
 #include "families.h"
 
-enum { SLOTS = 7, OUT = 128 };
+/* P8 and P9 need so many slots. */
+enum { SLOTS = 7, P9_SLOTS = 22, OUT = 128 };
 
-static uint64_t sets[SLOTS], smallest[SLOTS], unions[SLOTS];
-static uint32_t entries[SLOTS];
+static uint64_t sets[P9_SLOTS], smallest[P9_SLOTS], unions[P9_SLOTS];
+static uint32_t entries[P9_SLOTS];
 static uint8_t sheet[OUT], out[OUT];
 
 /* Parts 0, 1, 2 and parts 2, 3, 4 at weight 4, and the link that joins both triangles at weight 2. */
@@ -111,6 +112,28 @@ static void on_sheet(size_t length)
     show("a pair given before", families_listing_sequential(sheet, length, 3, 4, TABLES(SLOTS), out, sizeof out));
 }
 
+static void show_mean(const char *call, families_mean m)
+{
+    show(call, m.outcome);
+    printf("  sum %" PRIu64 " quotient %" PRIu64 " remainder %" PRIu64 "\n", m.sum, m.quotient, m.remainder);
+}
+
+/* P9: each part linked to the next two, and parts 0, 5, 10, whose three links lie in no other triangle. */
+static void means(void)
+{
+    static const uint8_t p9_names[] = "A       B       C       D       E       F       G       H       I       J       K       ";
+    static const uint16_t a[] = {0, 0, 1, 1, 2, 2, 3, 3, 4, 4, 5, 5, 6, 6, 7, 7, 8, 8, 9, 0, 5, 0};
+    static const uint16_t b[] = {1, 2, 2, 3, 3, 4, 4, 5, 5, 6, 6, 7, 7, 8, 8, 9, 9, 10, 10, 5, 10, 10};
+    uint16_t w[22];
+    uint8_t p9[184];
+    for (size_t j = 0; j < 22; j++)
+        w[j] = 4;
+    families_outcome o = families_write(p9_names, 88, a, 22, b, 22, w, 22, p9, sizeof p9);
+    show_mean("mean, clique 7", families_family_mean(p9, o.count, 3, 4, 7, TABLES(P9_SLOTS)));
+    show_mean("mean, clique 1057", families_family_mean(p9, o.count, 3, 4, 1057, TABLES(P9_SLOTS)));
+    show_mean("mean of no clique at t 5", families_family_mean(p9, o.count, 3, 5, 7, TABLES(P9_SLOTS)));
+}
+
 int main(void)
 {
     printf("edition %d\n", FAMILIES_EDITION);
@@ -123,5 +146,6 @@ int main(void)
     steps(SLOTS);
     steps(SLOTS - 1);
     on_sheet(length);
+    means();
     return 0;
 }

@@ -11,6 +11,7 @@ use Rattle.sets.specs.Lists.{any}
 use Rattle.sets.specs.Sets.{has, into}
 use Rattle.sets.specs.Value.{width, rows, row, store, noRows}
 use Rattle.sets.proofs.Tests.{iff, same-or-not, and-intro, and-left, and-right, or-left, or-right, or-cases}
+use Rattle.sets.proofs.ListLaws.{any-more}
 use Rattle.sets.proofs.Laws.{has-empty, has-into, into-lt}
 use Rattle.sets.proofs.RowNumbers.{none-fits}
 use Rattle.sets.proofs.Tables.{rows-store, row-store, row-other, rows-none, row-none}
@@ -69,10 +70,8 @@ unfolding joins
 joins-at a b l e f = or-left _ _ (and-intro _ _ (eq-eqb (l .low) a e) (eq-eqb (l .high) b f))
 
 linked-more : (L : List Link) (l : Link) (a b : ℕ) → linked (L ++ (l ∷ [])) a b ≡ linked L a b || joins a b l
-unfolding linked any
-linked-more [] l a b = or-false (joins a b l)
-linked-more (m ∷ L) l a b =
-    ap (λ (x : Bool). joins a b m || x) (linked-more L l a b) ∙ sym (or-assoc (joins a b m) (linked L a b) (joins a b l))
+unfolding linked
+linked-more L l a b = any-more (joins a b) L l
 
 module _ (L : List Link) (R : List ℕ) (l : Link) (n : Neighbours L R) (hl : l .low < width) (hh : l .high < width) where
   abbrev once : List ℕ

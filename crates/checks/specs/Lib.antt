@@ -1,3 +1,2 @@
-pub mod Inside
 pub mod Model
 pub mod Neighbours

@@ -7,8 +7,8 @@ use native.Mathlib.Numerals.{add-one}
 use Rattle.sets.proofs.ListLaws.{map-append}
 use Rattle.sheet.specs.Sheet.{listOf}
 use Rattle.sheet.proofs.Lists.{listOf-none, listOf-more}
-use Rattle.made.specs.Made.{sum}
-use Rattle.made.proofs.Sums.{sum-none, sum-first, sum-append}
+use Rattle.percolation.specs.Weights.{sum}
+use Rattle.percolation.proofs.Sums.{sum-none, sum-first, sum-append}
 
 module _ {A : Type 0} (g : A → ℕ) (f : ℕ → A) where
   -- the sum over the first n entries

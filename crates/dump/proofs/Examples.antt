@@ -5,7 +5,7 @@ use mathlib.Core.List.{List, [], _∷_, _++_, map}
 use Prim.Native.Nat.{ℕ}
 use Rattle.answers.specs.Verdict.{accepted, refused}
 use Rattle.percolation.specs.Links.{link}
-use Rattle.made.specs.Made.{sum, weightSum}
+use Rattle.percolation.specs.Weights.{sum, weightSum}
 use Rattle.dump_theory.specs.Rows.{pairsIn}
 use Rattle.dump.specs.Dump.{tripped, linksFrom, sheetFrom, checkDump, checkMake}
 

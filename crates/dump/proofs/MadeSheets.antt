@@ -28,7 +28,8 @@ use Rattle.sheet_reader.specs.Reading.{roomFor, ReadMeets}
 use Rattle.sheet_writer.specs.Writing.{partsOf, linksIn, checkWrite, WriteMeets}
 use Rattle.sheet_writer.specs.RoundTrip.{Bytes, Filled}
 use Rattle.sheet_writer.proofs.Again.{write-read}
-use Rattle.made.specs.Made.{Named, Proper, weighed, madeNetwork, madeSheet, sum, weightSum}
+use Rattle.percolation.specs.Weights.{sum, weightSum}
+use Rattle.made.specs.Made.{Named, Proper, weighed, madeNetwork, madeSheet}
 use Rattle.made.proofs.Weighed.{weighed-proper}
 use Rattle.made.proofs.Sheets.{made-write, made-read, made-sum, made-held}
 use Rattle.dump_theory.specs.Rows.{together, pairsIn}

@@ -8,7 +8,8 @@ ghost use Rattle.part_names.specs.Names.{checkNames};
 ghost use Rattle.sheet.specs.Sheet.{linksOf};
 ghost use Rattle.answers.specs.Model.{verdict};
 ghost use Rattle.sheet_writer.specs.Writing.{WriteMeets};
-ghost use Rattle.made.specs.Made.{weighed, madeNetwork, sum, weightSum};
+ghost use Rattle.percolation.specs.Weights.{sum, weightSum};
+ghost use Rattle.made.specs.Made.{weighed, madeNetwork};
 ghost use Rattle.dump_theory.specs.Rows.{pairsIn};
 ghost use Rattle.dump_theory.specs.Model.{Counts};
 ghost use Rattle.dump.specs.Dump.{

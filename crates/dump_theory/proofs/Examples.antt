@@ -2,7 +2,8 @@
 use mathlib.Core.List.{[], _∷_, map}
 use mathlib.Core.Path.{_≡_, refl}
 use Rattle.percolation.specs.Links.{link}
-use Rattle.made.specs.Made.{weighed, sum}
+use Rattle.percolation.specs.Weights.{sum}
+use Rattle.made.specs.Made.{weighed}
 use Rattle.dump_theory.specs.Rows.{together, pairsIn}
 
 -- the rows hold parts 0 1 2, parts 0 1, part 3, and no part

@@ -13,11 +13,12 @@ use Rattle.sets.specs.Sets.{has, full, size, sub, members}
 use Rattle.sets.proofs.Tests.{no-and}
 use Rattle.sets.proofs.Laws.{sub-has, parts-lt}
 use Rattle.sets.proofs.Members.{member-in, in-member, members-rising, members-length, has-full}
-use Rattle.sets.proofs.ListLaws.{number-order, keep-rising, rising-same, keep-at, keep-of, below-at, below-rising, keep-same, keep-none, keep-map, map-append, map-on, map-same, below-of, below-more}
-use Rattle.made.specs.Made.{sum, pairsOf, pairs}
-use Rattle.made.proofs.Sums.{sum-append}
+use Rattle.sets.proofs.ListLaws.{keep-both, number-order, keep-rising, rising-same, keep-at, keep-of, below-at, below-rising, keep-same, keep-none, keep-map, map-append, map-on, map-same, below-of, below-more}
+use Rattle.percolation.specs.Weights.{sum}
+use Rattle.made.specs.Made.{pairsOf, pairs}
+use Rattle.percolation.proofs.Sums.{sum-append}
 use Rattle.dump_theory.specs.Rows.{pairsIn}
-use Rattle.dump_theory.proofs.Sums.{count-below, count-flat, keep-both, sum-add, sum-ones}
+use Rattle.dump_theory.proofs.Sums.{count-below, count-flat, sum-add, sum-ones}
 
 -- ---- pairs that pass a test
 

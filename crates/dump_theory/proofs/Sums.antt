@@ -1,5 +1,5 @@
 -- Sums over lists, and counting twice: by the elements of one list and by those of another. Assumes nothing.
-use mathlib.Core.Bool.{Bool, true, false, cond, _&&_}
+use mathlib.Core.Bool.{Bool, true, false, cond}
 use mathlib.Core.List.{List, [], _∷_, _++_, map, flatten}
 use mathlib.Core.Path.{_≡_, refl, sym, ap, _∙_}
 use mathlib.Core.Logic.{_⊎_, inl, inr}
@@ -7,9 +7,9 @@ use Prim.Native.Nat.{ℕ, suc, _+_, _≤_}
 use native.Mathlib.Omega.{arith}
 use lib.ListN.{length, length-append}
 use Rattle.sets.specs.Lists.{keep, below}
-use Rattle.sets.proofs.Tests.{split, and-intro}
+use Rattle.sets.proofs.Tests.{split}
 use Rattle.sets.proofs.ListLaws.{keep-yes, keep-no, keep-append, map-same, below-more}
-use Rattle.made.specs.Made.{sum}
+use Rattle.percolation.specs.Weights.{sum}
 
 -- ---- how many a test keeps
 
@@ -36,21 +36,6 @@ module _ {A : Type 0} (f : A → Bool) where
       go : (f x ≡ true) ⊎ (f x ≡ false) → length (keep f l) ≤ length l → length (keep f (x ∷ l)) ≤ suc (length l)
       go (inl e) ih = omega (arith, ap length (keep-yes f x l e))
       go (inr e) ih = omega (arith, ap length (keep-no f x l e))
-
-  -- of those that pass one test, those that pass another
-  pub keep-both : (g : A → Bool) (l : List A) → keep g (keep f l) ≡ keep (λ x. f x && g x) l
-  unfolding keep
-  keep-both g [] = refl
-  keep-both g (x ∷ l) = go (split (f x)) (split (g x)) (keep-both g l)
-    where
-      go : (f x ≡ true) ⊎ (f x ≡ false) → (g x ≡ true) ⊎ (g x ≡ false) → keep g (keep f l) ≡ keep (λ y. f y && g y) l
-          → keep g (keep f (x ∷ l)) ≡ keep (λ y. f y && g y) (x ∷ l)
-      go (inl e) (inl d) ih =
-          ap (keep g) (keep-yes f x l e) ∙ keep-yes g x (keep f l) d
-          ∙ ap (λ (t : List A). x ∷ t) ih ∙ sym (keep-yes (λ y. f y && g y) x l (and-intro (f x) (g x) e d))
-      go (inl e) (inr d) ih =
-          ap (keep g) (keep-yes f x l e) ∙ keep-no g x (keep f l) d ∙ ih ∙ sym (keep-no (λ y. f y && g y) x l (ap (λ (b : Bool). b && g x) e ∙ d))
-      go (inr e) d ih = ap (keep g) (keep-no f x l e) ∙ ih ∙ sym (keep-no (λ y. f y && g y) x l (ap (λ (b : Bool). b && g x) e))
 
 -- the numbers below one more
 pub count-below : (f : ℕ → Bool) (n : ℕ) → length (keep f (below (suc n))) ≡ length (keep f (below n)) + cond (f n) 1 0

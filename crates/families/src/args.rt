@@ -4,17 +4,24 @@ use crate::typed::decimal;
 use crate::usage::wrong;
 use check::same;
 
-// A command with k and the threshold as it takes them; Meet has the place of `--` among the arguments.
+// A command with k and the threshold as it takes them; Meet has the place of `--` among the arguments, Mean names from argument 4 on.
 pub enum Order {
     Help,
     Pack,
     FromDump,
     Show,
     Listing(usize, u16),
+    ByMean(usize, u16),
+    Mean(usize, u16),
     Tree(usize),
     Meet(usize, usize),
     Slots(usize),
     Nothing,
+}
+
+enum KT {
+    Are(usize, u16),
+    Not,
 }
 
 fn nothing(what: &[u8]) -> Order {
@@ -28,10 +35,15 @@ fn number_at(i: usize) -> Number {
     decimal(&word[..n])
 }
 
-fn is_dashes(i: usize) -> bool {
-    let mut word = [0u8; 8];
+// Whether argument i is this word of at most 15 bytes.
+fn is_word(i: usize, wanted: &[u8]) -> bool {
+    let mut word = [0u8; 16];
     let n = os::arg(i, &mut word);
-    same(&word[..n], b"--")
+    same(&word[..n], wanted)
+}
+
+fn is_dashes(i: usize) -> bool {
+    is_word(i, b"--")
 }
 
 // The first of the arguments from `from` to before `to` that is `--`; `to` where none is.
@@ -67,36 +79,74 @@ fn show(count: usize) -> Order {
     Order::Show
 }
 
-// K, the argument behind the command; that it is no number is told.
-fn k_told() -> Number {
-    let k = number_at(2);
+// K at argument i; that it is no number is told.
+fn k_at(i: usize) -> Number {
+    let k = number_at(i);
     if let Number::Not = k {
         wrong(b"K must be a number, 2 to 6");
     }
     k
 }
 
-fn listing(count: usize) -> Order {
-    if count != 5 {
-        return nothing(b"listing takes K, T and a sheet");
-    }
-    let Number::Is(k) = k_told() else {
-        return Order::Nothing;
+// K at argument i and T at argument j, or what is wrong with them told.
+fn k_and_t(i: usize, j: usize) -> KT {
+    let Number::Is(k) = k_at(i) else {
+        return KT::Not;
     };
-    let Number::Is(t) = number_at(3) else {
-        return nothing(b"T must be a number, 0 to 65535");
-    };
+    let t = threshold(number_at(j));
     if 65535 < t {
-        return nothing(b"T must be a number, 0 to 65535");
+        wrong(b"T must be a number, 0 to 65535");
+        return KT::Not;
     }
-    Order::Listing(k, t as u16)
+    KT::Are(k, t as u16)
+}
+
+// A threshold; one too high for what is none.
+fn threshold(t: Number) -> usize {
+    match t {
+        Number::Is(t) => t,
+        Number::Not => 65536,
+    }
+}
+
+fn plain_listing(count: usize) -> Order {
+    if count != 5 {
+        return nothing(b"listing takes K, T and a sheet, with --by-mean before them or not");
+    }
+    match k_and_t(2, 3) {
+        KT::Are(k, t) => Order::Listing(k, t),
+        KT::Not => Order::Nothing,
+    }
+}
+
+fn listing(count: usize) -> Order {
+    if count != 6 {
+        return plain_listing(count);
+    }
+    if !is_word(2, b"--by-mean") {
+        return nothing(b"listing takes K, T and a sheet, with --by-mean before them or not");
+    }
+    match k_and_t(3, 4) {
+        KT::Are(k, t) => Order::ByMean(k, t),
+        KT::Not => Order::Nothing,
+    }
+}
+
+fn mean(count: usize) -> Order {
+    if count < 6 {
+        return nothing(b"mean takes K, T, names and a sheet");
+    }
+    match k_and_t(2, 3) {
+        KT::Are(k, t) => Order::Mean(k, t),
+        KT::Not => Order::Nothing,
+    }
 }
 
 fn tree(count: usize) -> Order {
     if count != 4 {
         return nothing(b"tree takes K and a sheet");
     }
-    let Number::Is(k) = k_told() else {
+    let Number::Is(k) = k_at(2) else {
         return Order::Nothing;
     };
     Order::Tree(k)
@@ -106,7 +156,7 @@ fn meet(count: usize) -> Order {
     if count < 5 {
         return nothing(b"meet takes K, names, --, names and a sheet");
     }
-    let Number::Is(k) = k_told() else {
+    let Number::Is(k) = k_at(2) else {
         return Order::Nothing;
     };
     let last = count - 1;
@@ -121,7 +171,7 @@ fn slots(count: usize) -> Order {
     if count != 4 {
         return nothing(b"slots takes K and a sheet");
     }
-    let Number::Is(k) = k_told() else {
+    let Number::Is(k) = k_at(2) else {
         return Order::Nothing;
     };
     Order::Slots(k)
@@ -142,6 +192,9 @@ fn command(word: &[u8], count: usize) -> Order {
     }
     if same(word, b"listing") {
         return listing(count);
+    }
+    if same(word, b"mean") {
+        return mean(count);
     }
     if same(word, b"tree") {
         return tree(count);

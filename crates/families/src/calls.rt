@@ -1,18 +1,17 @@
 // The calls that run on a sheet in tables: the space for them, which run answers, and what is printed of the answer.
-use crate::limits::SLOTS;
 use crate::limits::SPACE;
-use crate::listing;
 use crate::meet;
-use crate::refusal::tell;
-use crate::tree;
 use answers::Answer;
 use meeting::Met;
+use report::SLOTS;
+use report::tell;
 use runs::Method;
 use sets::Set;
 
 // A call with k, and with the threshold or the two cliques.
 pub enum Call {
     Listing(usize, u16),
+    ByMean(usize, u16),
     Tree(usize),
     Meet(usize, Set, Set),
 }
@@ -79,15 +78,21 @@ fn either(first: Run, second: Run, s: &[u8], out: &mut [u8; SPACE]) -> Answer {
     answer
 }
 
-// A listing by the maximal-clique run first, which is the faster one; a meeting by the sequential run first.
+// A listing by the maximal-clique run first, which is the faster one.
+fn list(k: usize, t: u16, s: &[u8], out: &mut [u8; SPACE]) -> Answer {
+    either(
+        Run::Listing(Method::Maximal, k, t),
+        Run::Listing(Method::Sequential, k, t),
+        s,
+        out,
+    )
+}
+
+// A meeting by the sequential run first.
 fn result(call: Call, s: &[u8], out: &mut [u8; SPACE]) -> Answer {
     match call {
-        Call::Listing(k, t) => either(
-            Run::Listing(Method::Maximal, k, t),
-            Run::Listing(Method::Sequential, k, t),
-            s,
-            out,
-        ),
+        Call::Listing(k, t) => list(k, t, s, out),
+        Call::ByMean(k, t) => list(k, t, s, out),
         Call::Tree(k) => in_tables(Run::Tree(k), s, out),
         Call::Meet(k, a, b) => either(
             Run::SequentialMeeting(k, a, b),
@@ -100,8 +105,9 @@ fn result(call: Call, s: &[u8], out: &mut [u8; SPACE]) -> Answer {
 
 fn print(call: Call, s: &[u8], out: &[u8], n: usize) {
     match call {
-        Call::Listing(k, t) => listing::print(s, k, t, out, n),
-        Call::Tree(k) => tree::print(s, k, out, n),
+        Call::Listing(k, t) => report::families(s, k, t, out, n),
+        Call::ByMean(k, t) => report::by_mean(s, k, t, out, n),
+        Call::Tree(k) => report::tree(s, k, out, n),
         Call::Meet(_, _, _) => meet::print(n),
     }
 }

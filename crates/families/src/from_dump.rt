@@ -3,12 +3,12 @@ use crate::limits::DUMP_SPACE;
 use crate::limits::LARGEST_SHEET;
 use crate::limits::LONGEST_DUMP;
 use crate::pack::put_out;
-use crate::refusal::tell;
 use answers::Answer;
 use console::Loaded;
 use console::error;
 use console::error_field;
 use console::refused;
+use report::tell;
 
 // The length: of a dump that is too long for any count no more is read than shows it.
 fn length_words(place: usize) {

@@ -1,7 +1,7 @@
-// How much the program takes: slots, bytes of a sheet and of a text, and the space for its answers.
-
-// Enough for every sheet at k 2 to 4: C(64, 3) is 41,664.
-pub const SLOTS: usize = 65536;
+// How much the program takes: bytes of a sheet, of a dump and of a text, and the space for its answers.
+use report::LINKS;
+use report::NAMES;
+use report::SLOTS;
 
 // Any answer: a tree of n slots has at most 2 * (n / k) - 1 lines of 26 bytes, so for k 2 one line less than there are slots; a community has 16 bytes, and
 // there are no more of them than slots.
@@ -21,9 +21,5 @@ pub const LONGEST_TEXT: usize = 262144;
 
 pub const TEXT_SPACE: usize = LONGEST_TEXT + 1;
 
-// The names of 64 parts, the pairs of 64 parts, and the sheet that has them all.
-pub const NAMES: usize = 8 * 64;
-
-pub const LINKS: usize = 2016;
-
+// The sheet of 64 parts with all pairs linked.
 pub const LARGEST_SHEET: usize = 8 + NAMES + 4 * LINKS;

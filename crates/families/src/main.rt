@@ -1,17 +1,12 @@
 // The program `families`: the answers on a link sheet in words, for the people who typed it.
 mod args;
 mod calls;
+mod cliques;
 mod from_dump;
-mod heads;
 mod limits;
-mod listing;
+mod means;
 mod meet;
-mod names;
 mod pack;
-mod refusal;
-mod show;
-mod slots;
-mod tree;
 mod typed;
 mod usage;
 
@@ -24,11 +19,13 @@ use limits::SHEET_SPACE;
 
 fn answer(order: Order, s: &[u8]) {
     match order {
-        Order::Show => show::show(s),
+        Order::Show => report::show(s),
         Order::Listing(k, t) => ask(Call::Listing(k, t), s),
+        Order::ByMean(k, t) => ask(Call::ByMean(k, t), s),
+        Order::Mean(k, t) => means::mean(s, k, t),
         Order::Tree(k) => ask(Call::Tree(k), s),
         Order::Meet(k, middle) => meet::meet(s, k, middle),
-        Order::Slots(k) => slots::slots(s, k),
+        Order::Slots(k) => report::slots(s, k),
         _ => {}
     }
 }

@@ -1,10 +1,7 @@
 // `pack`: a text from standard input as a sheet on standard output.
 use crate::limits::LARGEST_SHEET;
-use crate::limits::LINKS;
 use crate::limits::LONGEST_TEXT;
-use crate::limits::NAMES;
 use crate::limits::TEXT_SPACE;
-use crate::refusal::tell;
 use answers::Answer;
 use console::Loaded;
 use console::error;
@@ -13,6 +10,9 @@ use console::read;
 use console::refused;
 use libc::STDIN_FILENO;
 use libc::STDOUT_FILENO;
+use report::LINKS;
+use report::NAMES;
+use report::tell;
 use text::Text;
 
 // What is wrong with a line of the text.

@@ -17,13 +17,16 @@ ghost use Rattle.runs.specs.Lent.{lent};
 ghost use Rattle.runs.specs.OnSheet.{slotsFor, slotsOf, maximalsFor, ListingMeets};
 ghost use Rattle.sequential.specs.Steps.{StartMeets, InsertMeets, ListingNowMeets};
 ghost use Rattle.meeting.specs.Answers.{meetSays, MeetingMeets};
+ghost use Rattle.mean.specs.Answers.{meanSays, MeanMeets};
 ghost use Rattle.meeting_maximal.specs.Fits.{levelsFit};
 ghost use Rattle.merge_tree.specs.OnSheet.{TreeMeets};
-ghost use Rattle.outcomes.specs.Outcomes.{outcome, shown, sheetShown, meetShown, Shows, ShowsMeeting, ShowsStep};
+ghost use Rattle.outcomes.specs.Outcomes.{outcome, shown, sheetShown, meetShown, meanShown, Shows, ShowsMeeting, ShowsMean, ShowsStep};
+use outcomes::Mean;
 use outcomes::Outcome;
 use outcomes::Started;
 use outcomes::counted;
 use outcomes::of_answer;
+use outcomes::of_mean;
 use outcomes::of_meeting;
 use outcomes::of_name;
 use outcomes::of_sheet;
@@ -201,6 +204,24 @@ pub extern "C" fn families_listing_maximal(
         unions,
         out,
     ))
+}
+
+// mean::of_family: count is the links.
+#[no_mangle]
+pub extern "C" fn families_family_mean(
+    sheet: &[u8],
+    k: usize,
+    t: u16,
+    clique: u64,
+    sets: &mut [u64],
+    entries: &mut [u32],
+    smallest: &mut [u64],
+    unions: &mut [u64],
+) -> Mean
+    ensures { λ r. ⌜ ShowsMean (λ m. MeanMeets (now (sheet .entry)) k t clique (lent (now (sets .entry)) (now (entries .entry)) (now (smallest .entry)) (now (unions .entry))) m (lent (now (sets .exit)) (now (entries .exit)) (now (smallest .exit)) (now (unions .exit)))) r ⌝ }
+{
+    let set = sets::from_word(clique);
+    of_mean(mean::of_family(sheet, k, t, set, sets, entries, smallest, unions))
 }
 
 // meeting_sequential::meet: count is the weight, 0 for never.

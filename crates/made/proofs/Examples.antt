@@ -5,7 +5,8 @@ use mathlib.Core.List.{List, [], _∷_}
 use Prim.Native.Nat.{ℕ, _+_, _-_}
 use Rattle.percolation.specs.Links.{link}
 use Rattle.link_order.specs.Order.{linkLists}
-use Rattle.made.specs.Made.{pairs, weighed, madeSheet, weightSum}
+use Rattle.percolation.specs.Weights.{weightSum}
+use Rattle.made.specs.Made.{pairs, weighed, madeSheet}
 use Rattle.made.specs.Model.{pairsBefore, pairLists, pairCount}
 
 pub pairs-of-four : pairs 4 ≡ (0, 1) ∷ (0, 2) ∷ (0, 3) ∷ (1, 2) ∷ (1, 3) ∷ (2, 3) ∷ []

@@ -34,7 +34,8 @@ use Rattle.sheet_writer.proofs.Shape.{sheet-size}
 use Rattle.sheet_writer.proofs.Sound.{network-passes}
 use Rattle.sheet_writer.proofs.RoundTrip.{write-twin, network-again}
 use Rattle.sheet_writer.proofs.Twins.{twin-links}
-use Rattle.made.specs.Made.{Proper, Named, madeNetwork, madeSheet, weightSum}
+use Rattle.percolation.specs.Weights.{weightSum}
+use Rattle.made.specs.Made.{Proper, Named, madeNetwork, madeSheet}
 use Rattle.made.proofs.Sums.{sort-sum}
 
 -- ---- the bytes of names are bytes

@@ -1,47 +1,23 @@
 -- Weights added up: sorting keeps the sum, and the links that a weight for each pair gives add up to the weights of all pairs. Assumes nothing.
-use mathlib.Core.Path.{_≡_, refl, sym, ap, _∙_}
+use mathlib.Core.Path.{_≡_, sym, ap, _∙_}
 use mathlib.Core.Logic.{_⊎_, inl, inr}
 use mathlib.Core.Bool.{true, false}
-use mathlib.Core.List.{List, [], _∷_, _++_, map}
+use mathlib.Core.List.{List, [], _∷_, map}
 use Prim.Native.Nat.{ℕ, _+_}
 use native.Mathlib.Omega.{arith}
 use lib.Dec.{eqb}
 use borrow.Author.Tests.{eqb-true}
 use Rattle.sets.specs.Lists.{insertBy, insertAll}
 use Rattle.sets.proofs.Tests.{split}
-use Rattle.sets.proofs.ListLaws.{map-append}
 use Rattle.sets.proofs.Insertion.{insert-between}
 use Rattle.percolation.specs.Links.{Link, link}
+use Rattle.percolation.specs.Weights.{sum, weightSum}
+use Rattle.percolation.proofs.Sums.{sum-none, sum-first, weight-none, weight-first, weight-append}
 use Rattle.link_order.specs.Order.{precedes, sortLinks}
-use Rattle.made.specs.Made.{pairs, weighedOf, weighed, sum, weightSum}
+use Rattle.made.specs.Made.{pairs, weighedOf, weighed}
 use Rattle.made.proofs.Weighed.{weighed-none, weighed-skip, weighed-take}
 
-pub sum-none : sum [] ≡ 0
-unfolding sum
-sum-none = refl
-
-pub sum-first : (n : ℕ) (l : List ℕ) → sum (n ∷ l) ≡ n + sum l
-unfolding sum
-sum-first n l = refl
-
-pub sum-append : (l m : List ℕ) → sum (l ++ m) ≡ sum l + sum m
-unfolding sum
-sum-append [] m = omega arith
-sum-append (n ∷ l) m = omega (arith, sum-append l m)
-
 -- ---- links
-
-pub weight-none : weightSum [] ≡ 0
-unfolding weightSum sum
-weight-none = refl
-
-pub weight-first : (x : Link) (K : List Link) → weightSum (x ∷ K) ≡ x .weight + weightSum K
-unfolding weightSum
-weight-first x K = sum-first (x .weight) (map (λ l. l .weight) K)
-
-pub weight-append : (K M : List Link) → weightSum (K ++ M) ≡ weightSum K + weightSum M
-unfolding weightSum
-weight-append K M = ap sum (map-append (λ l. l .weight) K M) ∙ sum-append (map (λ l. l .weight) K) (map (λ l. l .weight) M)
 
 insert-sum : (x : Link) (K : List Link) → weightSum (insertBy precedes x K) ≡ x .weight + weightSum K
 insert-sum x K =

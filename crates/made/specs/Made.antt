@@ -2,7 +2,7 @@
 use mathlib.Core.Path.{_≡_}
 use mathlib.Core.Bool.{Bool, true, not, _&&_, _||_}
 use mathlib.Core.List.{List, [], _∷_, map, flatten}
-use Prim.Native.Nat.{ℕ, _+_, _*_, _≤_, _<_}
+use Prim.Native.Nat.{ℕ, _*_, _≤_, _<_}
 use lib.Dec.{eqb, ltb}
 use lib.ListN.{length}
 use Rattle.answers.specs.Verdict.{accepted}
@@ -79,14 +79,3 @@ madeNetwork names K = network names (map (λ l. l .low) (sortLinks K)) (map (λ 
 unfoldable pub madeSheet : List ℕ → List Link → List ℕ
 unfolding sheetOf madeNetwork
 madeSheet names K = sheetOf (madeNetwork names K)
-
--- ---- sums
-
-unfoldable pub sum : List ℕ → ℕ
-sum [] = 0
-sum (n ∷ l) = n + sum l
-
--- the weights of links added up
-unfoldable pub weightSum : List Link → ℕ
-unfolding sum
-weightSum K = sum (map (λ l. l .weight) K)

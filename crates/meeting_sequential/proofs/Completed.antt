@@ -9,34 +9,17 @@ use lib.ListN.{length, take, drop, take-append-drop}
 use lib.Seq.{take-suc}
 use Rattle.sets.specs.Lists.{_∈_}
 use Rattle.sets.specs.Sets.{has}
-use Rattle.sets.proofs.Tests.{never, not-so, and-intro, and-left, and-right}
+use Rattle.sets.proofs.Tests.{never, not-so}
 use Rattle.sets.proofs.ListLaws.{any-at, any-of, getD-member}
 use Rattle.percolation.specs.Percolate.{adjacent, Chain, joined}
-use Rattle.percolation.specs.Links.{Link, link, joins, linked, cliques}
+use Rattle.percolation.specs.Links.{Link, link, inside, joins, linked, cliques}
 use Rattle.percolation.specs.Steps.{legal}
 use Rattle.percolation.proofs.Accepted.{good-parts, legal-parts, legal-init, check-new, cliques-none}
 use Rattle.percolation.proofs.Chains.{first-in, last-in, joined-chain}
-use Rattle.percolation.proofs.Families.{joins-ends, Clique, cliques-of, cliques-at}
+use Rattle.percolation.proofs.Families.{joins-inside, inside-ends, Clique, cliques-of, cliques-at}
 use Rattle.runs.proofs.Ran.{take-legal}
-use Rattle.checks.specs.Inside.{inside}
 use Rattle.meeting.proofs.Prefixes.{linkAt, held-cliques, prefix-held}
 use Rattle.meeting_sequential.specs.Model.{Complete}
-
--- both ends of a link that joins two parts of x are parts of x
-joins-inside : (x q r : ℕ) (l : Link) → has q x ≡ true → has r x ≡ true → joins q r l ≡ true → inside x l ≡ true
-unfolding inside
-joins-inside x q r l f g t = go (joins-ends q r l t)
-  where
-    at : (u v : ℕ) → u ≡ v → has v x ≡ true → has u x ≡ true
-    at u v e h = ap (λ (z : ℕ). has z x) e ∙ h
-
-    go : ((l .low ≡ q) × (l .high ≡ r)) ⊎ ((l .low ≡ r) × (l .high ≡ q)) → inside x l ≡ true
-    go (inl e) = and-intro (has (l .low) x) (has (l .high) x) (at (l .low) q (e .0) f) (at (l .high) r (e .1) g)
-    go (inr e) = and-intro (has (l .low) x) (has (l .high) x) (at (l .low) r (e .0) g) (at (l .high) q (e .1) f)
-
-inside-ends : (x : ℕ) (l : Link) → inside x l ≡ true → (has (l .low) x ≡ true) × (has (l .high) x ≡ true)
-unfolding inside
-inside-ends x l t = (and-left (has (l .low) x) (has (l .high) x) t, and-right (has (l .low) x) (has (l .high) x) t)
 
 module _ (L : List Link) (p k x n : ℕ) (c : Complete L x n) where
   pub complete-member : x ∈ cliques L p k → (i : ℕ) → n ≤ i → x ∈ cliques (take i L) p k

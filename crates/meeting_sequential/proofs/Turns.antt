@@ -10,13 +10,11 @@ use lib.ListN.{take, drop, drop-of-length-le}
 use lib.Seq.{drop-cons, take-all}
 use Rattle.answers.specs.Verdict.{accepted}
 use Rattle.sets.specs.Lists.{_∈_}
-use Rattle.sets.specs.Sets.{has, out, size, sub, lowest}
+use Rattle.sets.specs.Sets.{out, sub, lowest}
 use Rattle.sets.specs.Value.{width, row}
 use Rattle.sets.proofs.Tests.{not-so, lt-or-le}
-use Rattle.sets.proofs.Laws.{out-sub, size-empty}
-use Rattle.sets.proofs.Members.{lowest-has}
 use Rattle.percolation.specs.Percolate.{joined}
-use Rattle.percolation.specs.Links.{Link, link, cliques}
+use Rattle.percolation.specs.Links.{Link, link, inside, cliques}
 use Rattle.percolation.specs.Levels.{met, never}
 use Rattle.percolation.specs.Steps.{legal}
 use Rattle.percolation.proofs.Families.{cliques-of}
@@ -24,10 +22,8 @@ use Rattle.checks.specs.Neighbours.{Neighbours}
 use Rattle.slots.specs.Tables.{Tables, rootOf}
 use Rattle.slots_theory.specs.Shows.{Shows}
 use Rattle.slots.specs.Model.{find}
-use Rattle.slots.proofs.Finding.{found-holds, found-none}
 use Rattle.slots.proofs.Lengths.{Kept, same-room}
-use Rattle.slots_theory.proofs.Shown.{shows-complete, part-slot}
-use Rattle.slots_theory.proofs.Communal.{slot-joined}
+use Rattle.slots_theory.proofs.Communal.{slot-joined, member-found}
 use Rattle.clique_taking.proofs.Inserted.{cliques-family}
 use Rattle.clique_taking.proofs.AllTaken.{slots-mono}
 use Rattle.sheet.specs.Sheet.{parts, links, linkOf, linksOf, checkSheet}
@@ -37,7 +33,6 @@ use Rattle.runs.proofs.InSheet.{parts-width, links-length, link-at}
 use Rattle.slots_theory.proofs.Free.{Stays}
 use Rattle.runs.proofs.FreeLinks.{links-stays}
 use Rattle.runs.proofs.Ran.{links-kept, further-near, further-shown}
-use Rattle.checks.specs.Inside.{inside}
 use Rattle.meeting.specs.Answers.{tells, meetingOf}
 use Rattle.meeting_sequential.specs.Model.{Complete, Taken}
 use Rattle.meeting.proofs.Prefixes.{linkAt, held-cliques, prefix-held, prefix-all, first-met, never-met}
@@ -89,25 +84,6 @@ pub record Turn (s : List ℕ) (k a b n : ℕ) (R : List ℕ) (T : Tables) (i j 
   pub slot : InSlot T i a
   pub other : InSlot T j b
 
--- the slot of a member without its lowest part is there
-slot-found : (p k : ℕ) (L : List Link) (T : Tables) → 2 ≤ k → Shows p k (cliques L p k) T → (a : ℕ) → a ∈ cliques L p k
-    → (i : ℕ) → i ≡ find (T .sets) (T .used) (out (lowest a) a) → InSlot T i a
-slot-found p k L T two h a m i e = go (lt-or-le i (T .used))
-  where
-    c : ℕ
-    c = out (lowest a) a
-
-    some : has (lowest a) a ≡ true
-    some = lowest-has a (λ z. omega (arith, ap size z, size-empty, cliques-of L p k m .sized))
-
-    there : (z : ℕ) × (z < T .used) × (row (T .sets) z ≡ out (lowest a) a)
-    there = shows-complete p k (cliques L p k) T h .each c (part-slot p k (cliques L p k) (cliques-family L p k) a (lowest a) m some)
-
-    go : (i < T .used) ⊎ (T .used ≤ i) → InSlot T i a
-    go (inl l) =
-        (l, ap (λ (z : ℕ). sub z a) (ap (row (T .sets)) e ∙ found-holds (T .sets) c (T .used) (omega (arith, e, l))) ∙ out-sub (lowest a) a)
-    go (inr l) = absurd (found-none (T .sets) c (T .used) (omega (arith, e, l)) (there .0) (there .1) (there .2))
-
 module _ (s : List ℕ) (ok : checkSheet s ≡ accepted) (k : ℕ) (two : 2 ≤ k) where
   abbrev p : ℕ
   p = parts s
@@ -128,8 +104,8 @@ module _ (s : List ℕ) (ok : checkSheet s ≡ accepted) (k : ℕ) (two : 2 ≤ 
       → j ≡ find (T .sets) (T .used) (out (lowest b) b) → Turn s k a b n R T i j
   turn-begin a b n R T t i j e f = record {
     taken = t;
-    slot = slot-found p k (take n L) T two (t .shows) a (t .first) i e;
-    other = slot-found p k (take n L) T two (t .shows) b (t .second) j f;
+    slot = member-found p k (F n) T (t .shows) (omega (arith, two)) (cliques-family (take n L) p k) a (t .first) i e;
+    other = member-found p k (F n) T (t .shows) (omega (arith, two)) (cliques-family (take n L) p k) b (t .second) j f;
   }
 
   module _ (a b n : ℕ) (R : List ℕ) (T : Tables) (i j : ℕ) (t : Turn s k a b n R T i j) where

@@ -7,8 +7,7 @@ use Prim.Native.Nat.{ℕ, suc, _≤_, _<_}
 use lib.ListN.{length, getD, take, drop}
 use Rattle.sets.specs.Lists.{_∈_}
 use Rattle.percolation.specs.Percolate.{joined}
-use Rattle.percolation.specs.Links.{Link, link, cliques, slots}
-use Rattle.checks.specs.Inside.{inside}
+use Rattle.percolation.specs.Links.{Link, link, inside, cliques, slots}
 use Rattle.checks.specs.Neighbours.{Neighbours}
 use Rattle.slots.specs.Tables.{Tables, room}
 use Rattle.slots_theory.specs.Shows.{Shows}

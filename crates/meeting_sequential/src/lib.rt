@@ -3,11 +3,9 @@ ghost use mathlib.Core.Path.{_≡_};
 ghost use lib.ListN.{length};
 ghost use Prim.Native.Nat.{_≤_, max};
 ghost use Rattle.answers.specs.Verdict.{accepted};
-ghost use Rattle.sets.specs.Sets.{out, lowest};
 ghost use Rattle.sets.specs.Value.{num};
 ghost use Rattle.percolation.specs.Steps.{enough};
 ghost use Rattle.slots.specs.Tables.{tables};
-ghost use Rattle.slots.specs.Model.{find};
 ghost use Rattle.sheet.specs.Sheet.{links, linksOf, checkSheet};
 ghost use Rattle.runs.specs.Lent.{lent};
 ghost use Rattle.runs.specs.OnSheet.{slotsOf};
@@ -40,13 +38,6 @@ fn larger(x: usize, y: usize) -> usize
     if x < y { y } else { x }
 }
 
-// The slot of s less its lowest part.
-fn slot_of(sets: &[u64], used: usize, s: Set) -> usize
-    ensures { λ r. ⌜ r ≡ find (now (sets .entry)) used (out (lowest (num s)) (num s)) ⌝ }
-{
-    slots::find(sets, used, sets::without(s, sets::lowest(s)))
-}
-
 // The meeting weight of a and b where the links below `from` are in, by which both are complete: one link more until slots of both end at the same one.
 fn meet_after(
     sheet: &[u8],
@@ -65,8 +56,8 @@ fn meet_after(
     requires { ⌜ (checkSheet (now sheet) ≡ accepted) × (m ≡ links (now sheet)) × (2 ≤ k) × Taken (now sheet) k (num a) (num b) from (now rows) (tables (now sets) (now entries) (now smallest) (now unions) filled) ⌝ }
     ensures { λ r. ⌜ meetSays r ≡ tells (meetingOf (now (sheet .entry)) k (num a) (num b)) ⌝ }
 {
-    let i = slot_of(sets, filled, a);
-    let j = slot_of(sets, filled, b);
+    let i = slots::slot_of(sets, filled, a);
+    let j = slots::slot_of(sets, filled, b);
     let mut used = filled;
     let mut n = from;
     loop {

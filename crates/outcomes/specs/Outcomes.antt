@@ -8,8 +8,12 @@ use Rattle.percolation.specs.Levels.{met, never}
 use Rattle.meeting.specs.Answers.{MeetSaid, tells, meetSays}
 use Rattle.meeting.specs.Answers.{refuses as refusesMeeting}
 use Rattle.meeting.specs.declared.Met.{Met}
+use Rattle.mean.specs.Answers.{MeanSaid, gives, meanSays}
+use Rattle.mean.specs.Answers.{refuses as refusesMean}
+use Rattle.mean.specs.declared.FamilyMean.{FamilyMean}
 use Rattle.sequential.specs.declared.Stepped.{Stepped}
 use Rattle.outcomes.specs.declared.Outcome.{Outcome}
+use Rattle.outcomes.specs.declared.Mean.{Mean}
 use Rattle.outcomes.specs.declared.Started.{Started}
 
 abbrev pub outcome : ℕ → ℕ → ℕ → ℕ → Outcome
@@ -31,8 +35,16 @@ meetShown (tells (met w)) = outcome 0 0 w 0
 meetShown (tells never) = outcome 0 0 0 0
 meetShown (refusesMeeting n a) = outcome n a 0 0
 
+abbrev pub meanOutcome : Outcome → ℕ → ℕ → ℕ → Mean
+meanOutcome o s q r = record { outcome = o; sum = s; quotient = q; remainder = r }
+
+-- the mean of a family: count is its links
+unfoldable pub meanShown : MeanSaid → Mean
+meanShown (gives m) = meanOutcome (outcome 0 0 (m .links) 0) (m .sum) (m .quotient) (m .remainder)
+meanShown (refusesMean n a) = meanOutcome (outcome n a 0 0) 0 0 0
+
 -- o shows an answer of the call behind it, of which P holds
-pub record ShowsAs {A : Type 0} (show : A → Outcome) (P : A → Type 0) (o : Outcome) : Type 0 where
+pub record ShowsAs {A O : Type 0} (show : A → O) (P : A → Type 0) (o : O) : Type 0 where
   pub answer : A
   pub meets : P answer
   pub same : o ≡ show answer
@@ -42,6 +54,9 @@ Shows P o = ShowsAs (λ a. shown (says a)) P o
 
 abbrev pub ShowsMeeting : (Met → Type 0) → Outcome → Type 0
 ShowsMeeting P o = ShowsAs (λ m. meetShown (meetSays m)) P o
+
+abbrev pub ShowsMean : (FamilyMean → Type 0) → Mean → Type 0
+ShowsMean P o = ShowsAs (λ m. meanShown (meanSays m)) P o
 
 -- o shows what a step gave back, of which P holds
 pub record ShowsStep (P : Stepped → Type 0) (o : Started) : Type 0 where

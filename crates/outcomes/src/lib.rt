@@ -3,8 +3,10 @@ ghost use mathlib.Core.Path.{_≡_};
 ghost use Rattle.answers.specs.Answers.{says};
 ghost use Rattle.sheet.specs.Answers.{sheetSays, foundSays};
 ghost use Rattle.meeting.specs.Answers.{meetSays};
-ghost use Rattle.outcomes.specs.Outcomes.{outcome, shown, sheetShown, meetShown};
+ghost use Rattle.mean.specs.Answers.{meanSays};
+ghost use Rattle.outcomes.specs.Outcomes.{outcome, shown, sheetShown, meetShown, meanOutcome, meanShown};
 use answers::Answer;
+use mean::FamilyMean;
 use meeting::Met;
 use sequential::State;
 use sequential::Stepped;
@@ -18,6 +20,15 @@ pub struct Outcome {
     pub place: usize,
     pub count: usize,
     pub parts: usize,
+}
+
+// What a mean gives back: its outcome, which counts the links, and the numbers; zeros on a refusal.
+#[repr(C)]
+pub struct Mean {
+    pub outcome: Outcome,
+    pub sum: u64,
+    pub quotient: u64,
+    pub remainder: u64,
 }
 
 // What a step gives back: its outcome, and the state for the next one.
@@ -83,6 +94,31 @@ pub fn of_meeting(met: Met) -> Outcome
         Met::Weight(w) => counted(w as usize, 0),
         Met::Never => counted(0, 0),
         Met::Refused(n, a) => refused(n, a),
+    }
+}
+
+fn mean_of(outcome: Outcome, sum: usize, quotient: usize, remainder: usize) -> Mean
+    ensures { λ r. ⌜ r ≡ meanOutcome outcome sum quotient remainder ⌝ }
+{
+    Mean {
+        outcome,
+        sum: sum as u64,
+        quotient: quotient as u64,
+        remainder: remainder as u64,
+    }
+}
+
+pub fn of_mean(family: FamilyMean) -> Mean
+    ensures { λ r. ⌜ r ≡ meanShown (meanSays family) ⌝ }
+{
+    match family {
+        FamilyMean::Weights(sum, links, quotient, remainder) => mean_of(
+            counted(links, 0),
+            sum,
+            quotient,
+            remainder,
+        ),
+        FamilyMean::Refused(n, a) => mean_of(refused(n, a), 0, 0, 0),
     }
 }
 

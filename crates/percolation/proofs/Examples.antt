@@ -14,7 +14,8 @@ use Rattle.percolation.specs.Links.{Link, link, listing, slots, family, 
 use Rattle.percolation.specs.Levels.{Meeting, met, never, meeting}
 use Rattle.percolation.specs.Steps.{insertAnswers}
 use Rattle.percolation.specs.Tree.{Line, line, tree, treeBytes}
-use Rattle.percolation.specs.Examples.{Asked, lists, meets, needs, gets, grows, Row, Says, RowHolds, table, sheet1, sheet5, sheet8, sheet9, sheet10}
+use Rattle.percolation.specs.Mean.{familyLinks, Mean, mean, meanOf}
+use Rattle.percolation.specs.Examples.{Asked, lists, meets, needs, gets, grows, weighs, Row, Says, RowHolds, table, sheet1, sheet5, sheet8, sheet9, sheet10}
 
 -- ---- the test
 
@@ -44,13 +45,17 @@ sameLine x y =
     eqb (x .weight) (y .weight)
     && (eqb (x .joins) (y .joins) && (eqb (x .into) (y .into) && (eqb (x .small) (y .small) && eqb (x .whole) (y .whole))))
 
+abbrev sameMean : Mean → Mean → Bool
+sameMean x y = eqb (x .sum) (y .sum) && eqb (x .links) (y .links) && (eqb (x .quotient) (y .quotient) && eqb (x .remainder) (y .remainder))
+
 test : List Link → ℕ → ℕ → Asked → Bool
-unfolding listing meeting slots family insertAnswers tree
+unfolding listing meeting slots family insertAnswers tree meanOf familyLinks
 test L p k (lists t C) = sameList sameShown (listing L p k t) C
 test L p k (meets a b m) = sameMeeting (meeting L p k a b) m
 test L p k (needs t n) = eqb (slots p k (family L p k t)) n
 test L p k (gets n r) = sameList sameVerdict (insertAnswers p k n [] L) r
 test L p k (grows X) = sameList sameLine (tree L p k) X
+test L p k (weighs t c m) = sameMean (meanOf (familyLinks L p k t c)) m
 
 passes : Row → Bool
 unfolding test
@@ -101,6 +106,14 @@ line-same x y t =
     let e₃ = shown-same (shown (x .small) (x .whole)) (shown (y .small) (y .whole)) (and-right c d t₂) in
     λ i. line (e₀ i) (e₁ i) (e₂ i) (e₃ i .small) (e₃ i .whole)
 
+mean-same : (x y : Mean) → sameMean x y ≡ true → x ≡ y
+mean-same x y t =
+    let a = eqb (x .sum) (y .sum) && eqb (x .links) (y .links) in
+    let b = eqb (x .quotient) (y .quotient) && eqb (x .remainder) (y .remainder) in
+    let e = both-same {A = ℕ × ℕ} (λ s n. (s, n)) (x .sum) (y .sum) (x .links) (y .links) (and-left a b t) in
+    let f = both-same {A = ℕ × ℕ} (λ q r. (q, r)) (x .quotient) (y .quotient) (x .remainder) (y .remainder) (and-right a b t) in
+    λ i. mean (e i .0) (e i .1) (f i .0) (f i .1)
+
 sound : (L : List Link) (p k : ℕ) (q : Asked) → test L p k q ≡ true → Says L p k q
 unfolding test
 sound L p k (lists t C) h = list-same sameShown shown-same (listing L p k t) C h
@@ -108,6 +121,7 @@ sound L p k (meets a b m) h = meeting-same (meeting L p k a b) m h
 sound L p k (needs t n) h = eqb-true (slots p k (family L p k t)) n h
 sound L p k (gets n r) h = list-same sameVerdict verdict-same (insertAnswers p k n [] L) r h
 sound L p k (grows X) h = list-same sameLine line-same (tree L p k) X h
+sound L p k (weighs t c m) h = mean-same (meanOf (familyLinks L p k t c)) m h
 
 -- ---- P1 to P10
 

@@ -8,9 +8,11 @@ pub mod Families
 pub mod Joining
 pub mod Levels
 pub mod Maximal
+pub mod Mean
 pub mod Meet
 pub mod NewLink
 pub mod Ranges
 pub mod Same
 pub mod SlotCount
+pub mod Sums
 pub mod Tree

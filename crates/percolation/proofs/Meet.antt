@@ -2,37 +2,31 @@
 -- of three meeting weights the two lowest are equal. Assumes nothing.
 use mathlib.Core.Path.{_≡_, refl, sym, ap, _∙_, subst}
 use mathlib.Core.Logic.{_⊎_, inl, inr}
-use mathlib.Core.Bool.{Bool, true, _&&_}
+use mathlib.Core.Bool.{Bool, true}
 use mathlib.Core.List.{List}
 use Prim.Native.Nat.{ℕ, zero, suc, _≤_, _<_, min}
 use native.Mathlib.Omega.{arith}
 use Rattle.sets.specs.Lists.{_∈_, any, keep}
-use Rattle.sets.specs.Sets.{has, size}
-use Rattle.sets.proofs.Tests.{and-intro, and-left, and-right, lt-or-le}
+use Rattle.sets.specs.Sets.{has}
+use Rattle.sets.proofs.Tests.{lt-or-le}
 use Rattle.sets.proofs.ListLaws.{any-at, any-of, keep-at, keep-of, eachTwo-once}
-use Rattle.sets.proofs.Parts.{another}
 use Rattle.percolation.specs.Percolate.{adjacent, Chain, alone}
-use Rattle.percolation.specs.Links.{Link, heavy, joins, linked, cliques, family}
+use Rattle.percolation.specs.Links.{Link, heavy, joins, linked, inside, cliques, family}
 use Rattle.percolation.specs.Levels.{Meeting, met, never, levels, joinedAt, meeting, weightOf, MeetsAt, Weakest, TwoLowest}
 use Rattle.percolation.specs.Steps.{legal}
 use Rattle.percolation.proofs.Accepted.{good-parts, legal-parts, legal-positive, legal-apart, joins-turn}
 use Rattle.percolation.proofs.Chains.{adjacent-sym, first-in, chain-trans, chain-sym, joined-chain, chain-joined}
-use Rattle.percolation.proofs.Families.{Clique, cliques-of, cliques-at, joins-ends, chain-lower}
+use Rattle.percolation.proofs.Families.{Clique, cliques-of, cliques-at, joins-inside, inside-ends, ends-inside, clique-link, chain-lower}
 use Rattle.percolation.proofs.Levels.{heavy-of, heavy-at, levels-of, levels-at, largest-met, largest-never, nearest, Nearest, raise-links}
 
 module _ (L : List Link) (p k : ℕ) (two : 2 ≤ k) where
-  -- a member of the family at t has two linked parts, so some link weighs t or more
+  -- a link lies in a member of the family at t, so some link weighs t or more
   kept-some : (t s : ℕ) → s ∈ family L p k t → (e : Link) × e ∈ L × (t ≤ e .weight)
-  unfolding family linked
+  unfolding family
   kept-some t s m =
-      let c = cliques-of (heavy t L) p k m in
-      let u = another-two s (omega (arith, c .sized)) in
-      let f = any-of (joins (u .0) (u .1)) (heavy t L) (c .each (u .0) (u .1) (u .2) (u .3) (u .4)) in
+      let f = clique-link (heavy t L) p k s two m in
       let g = heavy-of t L (f .1) in
       (f .0, g .0, g .1)
-    where
-      another-two : (z : ℕ) → 2 ≤ size z → (q : ℕ) × (r : ℕ) × (q ≡ r → ⊥) × (has q z ≡ true) × (has r z ≡ true)
-      another-two z h = let o = another 0 z h in let u = another (o .0) z h in (o .0, u .0, u .2, o .1, u .1)
 
   -- a chain at a threshold is a chain at a level no lower
   raise : (t a b : ℕ) → Chain (adjacent k) (family L p k t) a b → (v : ℕ) × v ∈ levels L × (t ≤ v) × Chain (adjacent k) (family L p k v) a b
@@ -163,18 +157,20 @@ two-lowest L p k two weights a b c =
 pub one-link : (p : ℕ) (L : List Link) → legal p L ≡ true → (l m : Link) → l ∈ L → m ∈ L → joins (l .low) (l .high) m ≡ true → l ≡ m
 one-link p L ok l m i j h = eachTwo-once (λ x y. joins (x .low) (x .high) y) (λ x y e. sym (joins-turn x y) ∙ e) L (legal-apart p L ok) l m i j h
 
+-- a link of a legal list that lies in a clique at t weighs t or more: the clique's own link of that pair is this one
+pub inside-heavy : (L : List Link) (p k t a : ℕ) → legal p L ≡ true → a ∈ cliques (heavy t L) p k → (l : Link) → l ∈ L → inside a l ≡ true → t ≤ l .weight
+unfolding linked
+inside-heavy L p k t a ok m l i x =
+    let e = inside-ends a l x in
+    let d = cliques-of (heavy t L) p k m in
+    let f = any-of (joins (l .low) (l .high)) (heavy t L) (d .each (l .low) (l .high) (λ z. apart z) (e .0) (e .1)) in
+    let g = heavy-of t L (f .1) in
+    omega (arith, g .1, ap (λ (y : Link). y .weight) (one-link p L ok l (f .0) i (g .0) (f .2)))
+  where
+    apart : l .low ≡ l .high → ⊥
+    apart e = omega (arith, good-parts p l (legal-parts p L ok l i) .0)
+
 module _ (L : List Link) (p k : ℕ) (two : 2 ≤ k) (ok : legal p L ≡ true) where
-  -- both parts of a link that joins two parts of a are parts of a
-  inside : (a q r : ℕ) (l : Link) → has q a ≡ true → has r a ≡ true → joins q r l ≡ true → (has (l .low) a ≡ true) × (has (l .high) a ≡ true)
-  inside a q r l x y t = go (joins-ends q r l t)
-    where
-      at : (u v : ℕ) → u ≡ v → has v a ≡ true → has u a ≡ true
-      at u v e h = ap (λ (z : ℕ). has z a) e ∙ h
-
-      go : ((l .low ≡ q) × (l .high ≡ r)) ⊎ ((l .low ≡ r) × (l .high ≡ q)) → (has (l .low) a ≡ true) × (has (l .high) a ≡ true)
-      go (inl e) = (at (l .low) q (e .0) x, at (l .high) r (e .1) y)
-      go (inr e) = (at (l .low) r (e .0) y, at (l .high) q (e .1) x)
-
   pub meeting-self : (a w : ℕ) → a ∈ cliques L p k → Weakest L a w → meeting L p k a a ≡ met w
   unfolding family linked
   meeting-self a w m h =
@@ -190,46 +186,24 @@ module _ (L : List Link) (p k : ℕ) (two : 2 ≤ k) (ok : legal p L ≡ true) w
       kept : (q r : ℕ) → (q ≡ r → ⊥) → has q a ≡ true → has r a ≡ true → any (joins q r) (heavy w L) ≡ true
       kept q r ne x y =
           let f = any-of (joins q r) L (c .each q r ne x y) in
-          let i = inside a q r (f .0) x y (f .2) in
+          let i = inside-ends a (f .0) (joins-inside a q r (f .0) x y (f .2)) in
           any-at (joins q r) (heavy w L) (heavy-at w L (f .1) (h .least (f .0) (f .1) (i .0) (i .1))) (f .2)
 
       top : (t : ℕ) → a ∈ cliques (heavy t L) p k → t ≤ w
-      top t i =
-          let d = cliques-of (heavy t L) p k i in
-          let f = any-of (joins (h .bond .low) (h .bond .high)) (heavy t L) (d .each (h .bond .low) (h .bond .high) (λ e. apart e) (h .lower) (h .higher)) in
-          let g = heavy-of t L (f .1) in
-          omega (arith, g .1, ap (λ (l : Link). l .weight) (one-link p L ok (h .bond) (f .0) (h .member) (g .0) (f .2)), h .weighs)
-        where
-          apart : h .bond .low ≡ h .bond .high → ⊥
-          apart e = omega (arith, good-parts p (h .bond) (legal-parts p L ok (h .bond) (h .member)) .0)
+      top t i = omega (arith, inside-heavy L p k t a ok i (h .bond) (h .member) (ends-inside a (h .bond) (h .lower) (h .higher)), h .weighs)
 
   -- a clique has a weakest link
   pub weakest-of : (a : ℕ) → a ∈ cliques L p k → (w : ℕ) × Weakest L a w
-  unfolding linked
-  weakest-of a m = go (nearest 0 (keep test L))
+  weakest-of a m = go (nearest 0 (keep (inside a) L))
     where
-      c : Clique L p k a
-      c = cliques-of L p k m
+      some : (l : Link) × l ∈ keep (inside a) L
+      some = let f = clique-link L p k a two m in (f .0, keep-at (inside a) L (f .1) (f .2))
 
-      test : Link → Bool
-      test l = has (l .low) a && has (l .high) a
-
-      within : (l : Link) → test l ≡ true → (has (l .low) a ≡ true) × (has (l .high) a ≡ true)
-      within l t = (and-left (has (l .low) a) (has (l .high) a) t, and-right (has (l .low) a) (has (l .high) a) t)
-
-      some : (l : Link) × l ∈ keep test L
-      some =
-          let o = another 0 a (omega (arith, c .sized)) in
-          let u = another (o .0) a (omega (arith, c .sized)) in
-          let f = any-of (joins (o .0) (u .0)) L (c .each (o .0) (u .0) (u .2) (o .1) (u .1)) in
-          let i = inside a (o .0) (u .0) (f .0) (o .1) (u .1) (f .2) in
-          (f .0, keep-at test L (f .1) (and-intro (has (f .0 .low) a) (has (f .0 .high) a) (i .0) (i .1)))
-
-      go : ((l : Link) → l ∈ keep test L → l .weight < 0) ⊎ ((v : Link) × Nearest 0 (keep test L) v) → (w : ℕ) × Weakest L a w
+      go : ((l : Link) → l ∈ keep (inside a) L → l .weight < 0) ⊎ ((v : Link) × Nearest 0 (keep (inside a) L) v) → (w : ℕ) × Weakest L a w
       go (inl f) = absurd (omega (arith, f (some .0) (some .1)))
       go (inr r) =
-          let g = keep-of test L (r .1 .0) in
-          let i = within (r .0) (g .1) in (
+          let g = keep-of (inside a) L (r .1 .0) in
+          let i = inside-ends a (r .0) (g .1) in (
             r .0 .weight,
             record {
               bond = r .0;
@@ -237,6 +211,6 @@ module _ (L : List Link) (p k : ℕ) (two : 2 ≤ k) (ok : legal p L ≡ true) w
               lower = i .0;
               higher = i .1;
               weighs = refl;
-              least = λ l n x y. r .1 .2 l (keep-at test L n (and-intro (has (l .low) a) (has (l .high) a) x y)) (omega arith);
+              least = λ l n x y. r .1 .2 l (keep-at (inside a) L n (ends-inside a l x y)) (omega arith);
             },
           )

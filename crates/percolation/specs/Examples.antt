@@ -9,15 +9,17 @@ use Rattle.percolation.specs.Links.{Link, link, listing, slots, family}
 use Rattle.percolation.specs.Levels.{Meeting, met, never, meeting}
 use Rattle.percolation.specs.Steps.{insertAnswers}
 use Rattle.percolation.specs.Tree.{Line, line, tree}
+use Rattle.percolation.specs.Mean.{familyLinks, Mean, mean, meanOf}
 
 -- What is asked of links, a part count and k, and what is expected: the listing at t; the meeting weight of a and b; the slots needed at t;
--- what each link gets when the links are inserted in order with tables of n slots; the merge tree.
+-- what each link gets when the links are inserted in order with tables of n slots; the merge tree; the mean link weight of the family of c at t.
 pub data Asked : Type 0 where
   lists : ℕ → List Community → Asked
   meets : ℕ → ℕ → Meeting → Asked
   needs : ℕ → ℕ → Asked
   gets : ℕ → List Verdict → Asked
   grows : List Line → Asked
+  weighs : ℕ → ℕ → Mean → Asked
 
 pub record Row : Type 0 where
   pub links : List Link
@@ -35,6 +37,7 @@ Says L p k (meets a b m) = meeting L p k a b ≡ m
 Says L p k (needs t n) = slots p k (family L p k t) ≡ n
 Says L p k (gets n r) = insertAnswers p k n [] L ≡ r
 Says L p k (grows X) = tree L p k ≡ X
+Says L p k (weighs t c m) = meanOf (familyLinks L p k t c) ≡ m
 
 abbrev pub RowHolds : Row → Type 0
 RowHolds r = Says (r .links) (r .parts) (r .k) (r .asked)
@@ -66,6 +69,7 @@ table =
     ∷ row sheet1 4 3 (lists 8 (shown 7 7 ∷ []))
     ∷ row sheet1 4 3 (lists 5 (shown 7 15 ∷ []))
     ∷ row sheet1 4 3 (meets 7 14 (met 5))
+    ∷ row sheet1 4 3 (weighs 5 7 (mean 36 5 7 1))
     ∷ row sheet5 5 3 (lists 4 (shown 7 7 ∷ shown 28 28 ∷ []))
     ∷ row sheet5 5 3 (meets 7 28 never)
     ∷ row sheet5 5 2 (lists 4 (shown 3 31 ∷ []))
@@ -75,5 +79,7 @@ table =
     ∷ row sheet8 5 3 (gets 6 (replicate 6 accepted ++ (refused 15 0 ∷ [])))
     ∷ row sheet8 5 3 (grows (line 4 0 3 7 7 ∷ line 4 0 3 28 28 ∷ line 2 2 0 7 31 ∷ []))
     ∷ row sheet9 11 3 (lists 4 (shown 7 2047 ∷ shown 1057 1057 ∷ []))
+    ∷ row sheet9 11 3 (weighs 4 7 (mean 76 19 4 0))
+    ∷ row sheet9 11 3 (weighs 4 1057 (mean 12 3 4 0))
     ∷ row sheet10 6 4 (lists 4 (shown 15 15 ∷ shown 60 60 ∷ []))
     ∷ []

@@ -1,7 +1,9 @@
 pub mod Examples
 pub mod Levels
 pub mod Links
+pub mod Mean
 pub mod Percolate
 pub mod Ranges
 pub mod Steps
 pub mod Tree
+pub mod Weights

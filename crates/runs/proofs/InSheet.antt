@@ -2,7 +2,8 @@
 use mathlib.Core.Path.{_≡_, sym, ap, _∙_, subst}
 use mathlib.Core.Bool.{true}
 use mathlib.Core.List.{List}
-use Prim.Native.Nat.{ℕ, _≤_, _<_}
+use Prim.Native.Nat.{ℕ, _*_, _≤_, _<_}
+use native.Mathlib.Nat.{mul-le-mul}
 use native.Mathlib.Omega.{arith}
 use lib.ListN.{length, getD, take}
 use lib.Seq.{take-all}
@@ -10,6 +11,7 @@ use Rattle.answers.specs.Verdict.{accepted}
 use Rattle.sets.specs.Value.{width, noRows}
 use Rattle.percolation.specs.Links.{Link}
 use Rattle.percolation.specs.Steps.{legal}
+use Rattle.percolation.proofs.Accepted.{legal-few}
 use Rattle.percolation.proofs.Ranges.{narrow-count}
 use Rattle.sheet.specs.Sheet.{parts, links, linkOf, linksOf, checkSheet}
 use Rattle.sheet.proofs.Sound.{sheet-count, sheet-legal}
@@ -35,6 +37,9 @@ first-all s n e = take-all n (linksOf s) (omega (arith, links-length s))
 module _ (s : List ℕ) (e : checkSheet s ≡ accepted) where
   pub parts-width : parts s ≤ width
   parts-width = narrow-count (parts s) (sheet-count s e) .1
+
+  pub links-few : links s ≤ width * width
+  links-few = omega (arith, links-length s, legal-few (parts s) (linksOf s) (sheet-legal s e), mul-le-mul parts-width parts-width)
 
   pub link-ends : (j : ℕ) → j < links s → (linkOf s j .low < width) × (linkOf s j .high < width)
   link-ends j h =

@@ -3,6 +3,7 @@ pub mod Agreed
 pub mod Calls
 pub mod Falling
 pub mod FreeLinks
+pub mod FromZero
 pub mod InSheet
 pub mod Left
 pub mod LinkList

@@ -1,7 +1,7 @@
 -- The tests over lists against membership; lists in an order. Assumes nothing.
 use mathlib.Core.Path.{_≡_, refl, sym, ap, ap₂, _∙_, subst, subst⁻¹}
 use mathlib.Core.Logic.{_⊎_, inl, inr}
-use mathlib.Core.Bool.{Bool, true, false, not, _&&_, _||_, and-true, and-assoc}
+use mathlib.Core.Bool.{Bool, true, false, not, _&&_, _||_, and-true, and-assoc, or-false, or-assoc}
 use mathlib.Core.List.{List, [], _∷_, _++_, map, flatten, append-nil, List·Memᴰ·head, List·Memᴰ·tail, List·Memᴰ·not-nil, List·Memᴰ·cases-cons, List·Memᴰ·append-cases, Memᴰ·cast, Memᴰ·append-left, Memᴰ·append-right, Memᴰ·map, Memᴰ·of-map}
 use Prim.Native.Nat.{ℕ, zero, suc, _+_, _-_, _≤_, _<_}
 use native.Mathlib.Omega.{arith}
@@ -101,6 +101,21 @@ module _ {A : Type 0} where
       go (inr e) (inl d) r = omega (arith, ap length (keep-no f x l e), ap length (keep-yes g x l d))
       go (inr e) (inr d) r = omega (arith, ap length (keep-no f x l e), ap length (keep-no g x l d))
 
+  -- of those that pass one test, those that pass another
+  pub keep-both : (f g : A → Bool) (l : List A) → keep g (keep f l) ≡ keep (λ x. f x && g x) l
+  unfolding keep
+  keep-both f g [] = refl
+  keep-both f g (x ∷ l) = go (split (f x)) (split (g x)) (keep-both f g l)
+    where
+      go : (f x ≡ true) ⊎ (f x ≡ false) → (g x ≡ true) ⊎ (g x ≡ false) → keep g (keep f l) ≡ keep (λ y. f y && g y) l
+          → keep g (keep f (x ∷ l)) ≡ keep (λ y. f y && g y) (x ∷ l)
+      go (inl e) (inl d) ih =
+          ap (keep g) (keep-yes f x l e) ∙ keep-yes g x (keep f l) d
+          ∙ ap (λ (t : List A). x ∷ t) ih ∙ sym (keep-yes (λ y. f y && g y) x l (and-intro (f x) (g x) e d))
+      go (inl e) (inr d) ih =
+          ap (keep g) (keep-yes f x l e) ∙ keep-no g x (keep f l) d ∙ ih ∙ sym (keep-no (λ y. f y && g y) x l (ap (λ (b : Bool). b && g x) e ∙ d))
+      go (inr e) d ih = ap (keep g) (keep-no f x l e) ∙ ih ∙ sym (keep-no (λ y. f y && g y) x l (ap (λ (b : Bool). b && g x) e))
+
   -- a test that never passes keeps none
   pub keep-none : (f : A → Bool) (l : List A) → ((x : A) → x ∈ l → f x ≡ false) → length (keep f l) ≡ 0
   unfolding keep
@@ -142,6 +157,11 @@ module _ {A : Type 0} where
   unfolding all
   all-more f [] x = and-true (f x)
   all-more f (y ∷ l) x = ap (λ (b : Bool). f y && b) (all-more f l x) ∙ sym (and-assoc (f y) (all f l) (f x))
+
+  pub any-more : (f : A → Bool) (l : List A) (x : A) → any f (l ++ (x ∷ [])) ≡ any f l || f x
+  unfolding any
+  any-more f [] x = or-false (f x)
+  any-more f (y ∷ l) x = ap (λ (b : Bool). f y || b) (any-more f l x) ∙ sym (or-assoc (f y) (any f l) (f x))
 
   pub eachTwo-more : (f : A → A → Bool) (l : List A) (x : A) → eachTwo f (l ++ (x ∷ [])) ≡ eachTwo f l && all (λ y. f y x) l
   unfolding eachTwo all

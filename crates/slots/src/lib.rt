@@ -3,7 +3,7 @@ ghost use mathlib.Core.Path.{_≡_};
 ghost use mathlib.Core.List.{List};
 ghost use lib.ListN.{length};
 ghost use Prim.Native.Nat.{ℕ, _<_, _^_, min, max};
-ghost use Rattle.sets.specs.Sets.{union, lesser};
+ghost use Rattle.sets.specs.Sets.{union, out, lesser, lowest};
 ghost use Rattle.sets.specs.Value.{num, store, numberAt};
 ghost use Rattle.percolation.specs.Ranges.{mostSlots};
 ghost use Rattle.slots.specs.Tables.{tables, room};
@@ -22,6 +22,13 @@ pub fn find(sets: &[u64], used: usize, s: Set) -> usize
         slot += 1;
     }
     slot
+}
+
+// The slot of s less its lowest part.
+pub fn slot_of(sets: &[u64], used: usize, s: Set) -> usize
+    ensures { λ r. ⌜ r ≡ find (now (sets .entry)) used (out (lowest (num s)) (num s)) ⌝ }
+{
+    find(sets, used, sets::without(s, sets::lowest(s)))
 }
 
 fn lower(a: usize, b: usize) -> usize

@@ -1,7 +1,7 @@
 -- What tables that show F say of its communities: each slot that is its own end shows one, each community stands at just one such slot, and two slots
 -- end at one exactly where their cliques are joined. Assumes nothing.
 use mathlib.Core.Path.{_≡_, sym, ap, _∙_, subst, subst⁻¹}
-use mathlib.Core.Logic.{_↔_}
+use mathlib.Core.Logic.{_⊎_, inl, inr, _↔_}
 use mathlib.Core.Bool.{true}
 use mathlib.Core.List.{List}
 use Prim.Native.Nat.{ℕ, _≤_, _<_}
@@ -10,6 +10,7 @@ use lib.ListN.{length}
 use Rattle.sets.specs.Lists.{_∈_}
 use Rattle.sets.specs.Sets.{has, out, size, sub, lowest}
 use Rattle.sets.specs.Value.{row}
+use Rattle.sets.proofs.Tests.{lt-or-le}
 use Rattle.sets.proofs.Laws.{out-sub, size-empty}
 use Rattle.sets.proofs.Members.{lowest-has}
 use Rattle.percolation.specs.Percolate.{Community, joined, communities}
@@ -17,8 +18,10 @@ use Rattle.percolation.proofs.Chains.{joined-chain, chain-joined}
 use Rattle.percolation.proofs.Communities.{communities-of, home-only}
 use Rattle.joining.specs.Entries.{Ends, rootOf}
 use Rattle.slots.specs.Tables.{Tables}
+use Rattle.slots.specs.Model.{find}
 use Rattle.slots_theory.specs.Shows.{shownAt, Shows}
 use Rattle.joining.proofs.Follow.{root-le, root-twice, root-reached, reached-root}
+use Rattle.slots.proofs.Finding.{found-holds, found-none}
 use Rattle.slots.proofs.Lengths.{room-within}
 use Rattle.slots_theory.proofs.Bearing.{InClass, class-own, class-slots, class-chain, class-over}
 use Rattle.slots_theory.proofs.Shown.{Family, shows-steady, shows-slot, stands-chain, shows-sound, shows-complete, part-slot}
@@ -86,13 +89,30 @@ module _ (p k : ℕ) (F : List ℕ) (T : Tables) (h : Shows p k F T) where
         fro e = shows-complete p k F T h .ends i j li lj (record { a = a; b = b; inA = sa; inB = sb; chain = joined-chain k F a b e })
 
   module _ (some : 1 ≤ k) (family : Family p k F) where
-    -- each member of F has a used slot
+    -- each member of F has a used slot: of its parts less any one
+    pub less-slot : (a : ℕ) → a ∈ F → (q : ℕ) → has q a ≡ true → (i : ℕ) × (i < T .used) × (row (T .sets) i ≡ out q a)
+    less-slot a m q t = shows-complete p k F T h .each (out q a) (part-slot p k F family a q m t)
+
+    lowest-slot : (a : ℕ) → a ∈ F → (i : ℕ) × (i < T .used) × (row (T .sets) i ≡ out (lowest a) a)
+    lowest-slot a m = less-slot a m (lowest a) (lowest-has a (λ e. omega (arith, ap size e, size-empty, family a m .0)))
+
     pub member-slot : (a : ℕ) → a ∈ F → (i : ℕ) × (i < T .used) × (sub (row (T .sets) i) a ≡ true)
-    member-slot a m =
-        let q = lowest a in
-        let t : has q a ≡ true = lowest-has a (λ e. omega (arith, ap size e, size-empty, family a m .0)) in
-        let r = shows-complete p k F T h .each (out q a) (part-slot p k F family a q m t) in
-        (r .0, r .1, ap (λ (z : ℕ). sub z a) (r .2) ∙ out-sub q a)
+    member-slot a m = let r = lowest-slot a m in (r .0, r .1, ap (λ (z : ℕ). sub z a) (r .2) ∙ out-sub (lowest a) a)
+
+    -- and looking for it without its lowest part finds one
+    pub member-found : (a : ℕ) → a ∈ F → (i : ℕ) → i ≡ find (T .sets) (T .used) (out (lowest a) a) → (i < T .used) × (sub (row (T .sets) i) a ≡ true)
+    member-found a m i e = go (lt-or-le i (T .used))
+      where
+        c : ℕ
+        c = out (lowest a) a
+
+        there : (z : ℕ) × (z < T .used) × (row (T .sets) z ≡ out (lowest a) a)
+        there = lowest-slot a m
+
+        go : (i < T .used) ⊎ (T .used ≤ i) → (i < T .used) × (sub (row (T .sets) i) a ≡ true)
+        go (inl l) =
+            (l, ap (λ (z : ℕ). sub z a) (ap (row (T .sets)) e ∙ found-holds (T .sets) c (T .used) (omega (arith, e, l))) ∙ out-sub (lowest a) a)
+        go (inr l) = absurd (found-none (T .sets) c (T .used) (omega (arith, e, l)) (there .0) (there .1) (there .2))
 
     -- each community stands at an end
     pub community-shown : (c : Community) → c ∈ communities k F → (i : ℕ) × (i < T .used) × (rootOf (T .entries) i ≡ i) × (shownAt T i ≡ c)

@@ -4,7 +4,6 @@ use mathlib.Core.Bool.{true}
 use mathlib.Core.List.{List, [], _++_}
 use Prim.Native.Nat.{ℕ, _*_, _≤_, _<_}
 use native.Mathlib.Omega.{arith}
-use native.Mathlib.Nat.{mul-le-mul}
 use lib.ListN.{length, take, drop}
 use Rattle.answers.specs.Verdict.{accepted, written}
 use Rattle.answers.proofs.Laws.{written-accepted}
@@ -15,7 +14,6 @@ use Rattle.percolation.specs.Steps.{legal}
 use Rattle.percolation.specs.Tree.{linesFrom, tree, treeBytes}
 use Rattle.listings.specs.Model.{rootSlots}
 use Rattle.percolation.proofs.Ranges.{good-k}
-use Rattle.percolation.proofs.Accepted.{legal-few}
 use Rattle.checks.proofs.Near.{near-none}
 use Rattle.slots.specs.Tables.{Tables, room}
 use Rattle.sheet.specs.Sheet.{parts, links, linkOf, linksOf, checkSheet}
@@ -23,7 +21,7 @@ use Rattle.sheet.proofs.Sound.{sheet-legal}
 use Rattle.runs.specs.Lent.{checkCall, cleared}
 use Rattle.runs.proofs.Left.{cleared-room}
 use Rattle.runs.proofs.Admitted.{call-sheet, call-k, call-level}
-use Rattle.runs.proofs.InSheet.{parts-width, links-length, link-at}
+use Rattle.runs.proofs.InSheet.{parts-width, links-length, link-at, links-few}
 use Rattle.tree_lines.specs.LineModel.{lineLength}
 use Rattle.tree_theory.proofs.RootsRest.{rest-further}
 use Rattle.tree_theory.proofs.ByRoots.{grown-none}
@@ -62,7 +60,7 @@ module _ (s : List ℕ) (k : ℕ) (T : Tables) (ok : checkCall s k T ≡ accepte
   passes-two = good-k k (call-k s k T ok) .0
 
   pub passes-few : links s ≤ width * width
-  passes-few = omega (arith, links-length s, legal-few p L lawful, mul-le-mul wide wide)
+  passes-few = links-few s sheet
 
   -- the level of link i ends before link j
   pub next-level : (i j : ℕ) → i < links s → take j (linksOf s) ≡ heavy (linkOf s i .weight) (linksOf s)

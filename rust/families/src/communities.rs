@@ -1,4 +1,5 @@
-//! Communities of a sheet: listings, meeting weights and the merge tree.
+//! Communities of a sheet: listings, meeting weights, mean link weights and
+//! the merge tree.
 
 use crate::lent::{self, Run};
 use crate::refused::Refused;
@@ -22,6 +23,16 @@ pub enum Meeting {
     /// The largest threshold at which a chain joins them.
     At(u16),
     Never,
+}
+
+/// The weights of a family's links: their sum and number, the whole quotient
+/// of the two and the remainder.
+#[derive(Clone, Copy, Debug, PartialEq, Eq)]
+pub struct MeanWeight {
+    pub sum: u64,
+    pub links: usize,
+    pub quotient: u64,
+    pub remainder: u64,
 }
 
 /// A line of the merge tree. Lines are numbered from 1 in their order.
@@ -113,6 +124,27 @@ pub fn meeting(
     Ok(match outcome.count {
         0 => Meeting::Never,
         weight => Meeting::At(weight as u16),
+    })
+}
+
+/// The mean link weight of the family that a k-clique belongs to over links
+/// of weight t or more: of the links that lie in some k-clique of that family.
+/// A set that is no k-clique at t is refused (13).
+pub fn mean(
+    sheet: &[u8],
+    k: usize,
+    t: u16,
+    clique: u64,
+    space: Space,
+) -> Result<MeanWeight, Refused> {
+    let slots = space.slots(Run::Sequential, claimed_parts(sheet), k);
+    let mut tables = Tables::new(slots);
+    let mean = lent::family_mean(sheet, k, t, clique, tables.as_mut());
+    Ok(MeanWeight {
+        sum: mean.sum,
+        links: mean.outcome.accepted()?.count,
+        quotient: mean.quotient,
+        remainder: mean.remainder,
     })
 }
 

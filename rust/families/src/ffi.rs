@@ -36,10 +36,23 @@ pub struct Started {
     pub state: State,
 }
 
+/// What the mean link weight of a family answers: the outcome counts the
+/// links.
+#[repr(C)]
+#[derive(Clone, Copy, Debug, PartialEq, Eq)]
+pub struct Mean {
+    pub outcome: Outcome,
+    pub sum: u64,
+    pub quotient: u64,
+    pub remainder: u64,
+}
+
 // A field more or less on one side would shift every argument after it.
 #[cfg(target_pointer_width = "64")]
-const _: () =
+const _: () = {
     assert!(size_of::<Outcome>() == 32 && size_of::<State>() == 544 && size_of::<Started>() == 576);
+    assert!(size_of::<Mean>() == 56);
+};
 
 extern "C" {
     pub fn families_read(
@@ -188,6 +201,22 @@ extern "C" {
         unions: *mut u64,
         unions_length: usize,
     ) -> Outcome;
+
+    pub fn families_family_mean(
+        sheet: *const u8,
+        sheet_length: usize,
+        k: usize,
+        t: u16,
+        clique: u64,
+        sets: *mut u64,
+        sets_length: usize,
+        entries: *mut u32,
+        entries_length: usize,
+        smallest: *mut u64,
+        smallest_length: usize,
+        unions: *mut u64,
+        unions_length: usize,
+    ) -> Mean;
 
     pub fn families_tree(
         sheet: *const u8,

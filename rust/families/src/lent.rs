@@ -9,7 +9,7 @@ use crate::ffi;
 use crate::refused::Refused;
 use crate::tables::{TablesMut, TablesRef};
 
-pub use crate::ffi::{Outcome, Started, State};
+pub use crate::ffi::{Mean, Outcome, Started, State};
 
 /// Which of the two runs a call goes through.
 #[derive(Clone, Copy, Debug, PartialEq, Eq)]
@@ -208,6 +208,28 @@ pub fn meeting(run: Run, sheet: &[u8], k: usize, a: u64, b: u64, tables: TablesM
             k,
             a,
             b,
+            tables.sets.as_mut_ptr(),
+            tables.sets.len(),
+            tables.entries.as_mut_ptr(),
+            tables.entries.len(),
+            tables.smallest.as_mut_ptr(),
+            tables.smallest.len(),
+            tables.unions.as_mut_ptr(),
+            tables.unions.len(),
+        )
+    }
+}
+
+/// The mean link weight of a k-clique's family at t; `count` is the number
+/// of links.
+pub fn family_mean(sheet: &[u8], k: usize, t: u16, clique: u64, tables: TablesMut) -> Mean {
+    unsafe {
+        ffi::families_family_mean(
+            sheet.as_ptr(),
+            sheet.len(),
+            k,
+            t,
+            clique,
             tables.sets.as_mut_ptr(),
             tables.sets.len(),
             tables.entries.as_mut_ptr(),

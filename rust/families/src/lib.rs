@@ -1,6 +1,6 @@
 //! Families of parts that fail together: link sheets, k-clique percolation,
-//! meeting weights and the merge tree, by the proved library behind its C
-//! interface.
+//! meeting weights, mean link weights and the merge tree, by the proved
+//! library behind its C interface.
 //!
 //! The functions here make their own tables and outputs; those of [`lent`]
 //! take the caller's. A refusal is [`Refused`], with a number, a place and a
@@ -15,7 +15,7 @@ mod sheet;
 mod tables;
 
 pub use communities::{
-    decode_listing, decode_tree, listing, meeting, tree, Community, Line, Meeting,
+    decode_listing, decode_tree, listing, mean, meeting, tree, Community, Line, MeanWeight, Meeting,
 };
 pub use lent::Run;
 pub use refused::Refused;

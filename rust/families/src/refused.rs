@@ -26,7 +26,8 @@ const SENTENCES: [&str; 18] = [
     "tables of unequal length",
     "a state whose k, p or used slots lie outside their ranges, \
      or a used joining entry above its slot number",
-    "a set that is no k-clique of the whole sheet",
+    "a set that is no k-clique of the whole sheet; \
+     for a mean link weight: of the links of weight t or more",
     "a name asked for a part not below p",
     "too few slots",
     "an output is shorter than its part of the answer",

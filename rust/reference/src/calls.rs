@@ -7,7 +7,7 @@ use std::rc::Rc;
 
 use crate::dumps::{counted, parse_dump};
 use crate::fast::{self, Clique};
-use crate::network::{levels, listing_bytes, tree_bytes, Community, Network};
+use crate::network::{levels, listing_bytes, tree_bytes, Community, Mean, Network};
 use crate::sheets::{demand, good_part_count, parse, parse_lists, sheet_bytes, Refusal};
 
 /// No run uses more slots than this.
@@ -97,6 +97,36 @@ pub struct ExpectedNetwork {
     pub weights: Vec<u16>,
 }
 
+/// What is expected of a family's mean link weight: the answer, which counts
+/// the links, its three other numbers and the tables.
+#[derive(Clone, Copy, Debug, PartialEq, Eq)]
+pub struct ExpectedMean {
+    pub outcome: Outcome,
+    pub sum: u64,
+    pub quotient: u64,
+    pub remainder: u64,
+    pub tables: Left,
+}
+
+impl ExpectedMean {
+    pub fn refused(refusal: Refusal, tables: Left) -> ExpectedMean {
+        ExpectedMean {
+            outcome: refusal.into(),
+            ..ExpectedMean::told(Mean::default(), tables)
+        }
+    }
+
+    pub fn told(mean: Mean, tables: Left) -> ExpectedMean {
+        ExpectedMean {
+            outcome: Outcome::count(mean.links),
+            sum: mean.sum,
+            quotient: mean.quotient,
+            remainder: mean.remainder,
+            tables,
+        }
+    }
+}
+
 /// C(n, r) within the table, and 0 outside it.
 pub fn subset_count(n: usize, r: usize) -> usize {
     if n > 64 || r > 6 {
@@ -145,11 +175,13 @@ pub fn dump_sheet(dump: &[u8], out: usize) -> Expected {
     }
 }
 
-/// What the links of weight t or more make: the slots they need and their
-/// communities.
+/// What the links of weight t or more make: the slots they need, their
+/// communities and, once asked for, the mean link weight of each of their
+/// k-cliques' families.
 struct AtThreshold {
     slots: usize,
     listing: Vec<Community>,
+    means: OnceCell<fast::SetMap<Mean>>,
 }
 
 /// A sheet and k, with what was computed for them.
@@ -177,18 +209,25 @@ impl<'a> Facts<'a> {
         &self.cliques
     }
 
+    /// The k-cliques over links of weight t or more.
+    fn cliques_at(&self, t: u16) -> &[Clique] {
+        let end = self.cliques.partition_point(|c| c.weakest >= t);
+        &self.cliques[..end]
+    }
+
     /// Thresholds with the same k-cliques share one entry.
     fn at(&self, t: u16) -> Rc<AtThreshold> {
-        let end = self.cliques.partition_point(|c| c.weakest >= t);
+        let cliques = self.cliques_at(t);
         let mut at = self.at.borrow_mut();
-        let entry = at.entry(end).or_insert_with(|| {
+        let entry = at.entry(cliques.len()).or_insert_with(|| {
             let mut classes = fast::Classes::default();
-            for clique in &self.cliques[..end] {
+            for clique in cliques {
                 classes.add(clique.set);
             }
             Rc::new(AtThreshold {
                 slots: classes.slot_count(),
                 listing: classes.listing(),
+                means: OnceCell::new(),
             })
         });
         Rc::clone(entry)
@@ -201,6 +240,14 @@ impl<'a> Facts<'a> {
 
     pub fn listing(&self, t: u16) -> Vec<Community> {
         self.at(t).listing.clone()
+    }
+
+    /// The mean link weight of a k-clique's family at t; `None` where the set
+    /// is no k-clique there.
+    pub fn mean(&self, t: u16, clique: u64) -> Option<Mean> {
+        let at = self.at(t);
+        let means = || fast::means(&self.network.links, self.cliques_at(t));
+        at.means.get_or_init(means).get(&clique).copied()
     }
 
     /// How many maximal cliques there are at t; above `stop`, only that they
@@ -378,6 +425,25 @@ impl JudgeK<'_> {
         match demand(needed <= most, 15, 0) {
             Err(refusal) => Expected::refused(refusal, Left::Zero),
             Ok(()) => Expected::written(weight(), Vec::new(), 0, Left::Zero),
+        }
+    }
+
+    /// The mean link weight of a k-clique's family at t.
+    pub fn family_mean(&self, t: u16, clique: u64, tables: [usize; 4]) -> ExpectedMean {
+        let checked = self.until_tables(tables).and_then(|facts| {
+            let none = Refusal {
+                number: 13,
+                place: 0,
+            };
+            Ok((facts.mean(t, clique).ok_or(none)?, facts.slots(t)))
+        });
+        let (mean, needed) = match checked {
+            Err(refusal) => return ExpectedMean::refused(refusal, Left::Untouched),
+            Ok(found) => found,
+        };
+        match demand(needed <= tables[0].min(MOST_SLOTS), 15, 0) {
+            Err(refusal) => ExpectedMean::refused(refusal, Left::Zero),
+            Ok(()) => ExpectedMean::told(mean, Left::Zero),
         }
     }
 

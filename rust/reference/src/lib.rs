@@ -1,6 +1,6 @@
 //! A second implementation of link sheets, k-clique percolation, meeting
-//! weights and the merge tree, written from the requirement alone, for
-//! comparison with the library.
+//! weights, mean link weights and the merge tree, written from the requirement
+//! alone, for comparison with the library.
 //!
 //! - [`definition`]: the definitions as they stand, over all sets of parts,
 //!   for small part counts.

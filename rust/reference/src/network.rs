@@ -1,5 +1,5 @@
-//! What the implementations speak of: links, communities, tree lines, and
-//! the bytes that show them. Numbers in bytes stand high byte first.
+//! What the implementations speak of: links, communities, mean link weights,
+//! tree lines, and the bytes that show them. Numbers in bytes stand high byte first.
 
 /// A link as a sheet gives it.
 #[derive(Clone, Copy, Debug, PartialEq, Eq, Hash)]
@@ -21,6 +21,29 @@ pub struct Network {
 pub struct Community {
     pub smallest: u64,
     pub union: u64,
+}
+
+/// The weights of a family's links: their sum and number, the whole quotient
+/// of the two and the remainder.
+#[derive(Clone, Copy, Debug, Default, PartialEq, Eq)]
+pub struct Mean {
+    pub sum: u64,
+    pub links: usize,
+    pub quotient: u64,
+    pub remainder: u64,
+}
+
+impl Mean {
+    /// The mean weight of one link or more.
+    pub fn of(links: &[Link]) -> Mean {
+        let (sum, number) = (links.iter().map(|l| u64::from(l.weight)).sum(), links.len());
+        Mean {
+            sum,
+            links: number,
+            quotient: sum / number as u64,
+            remainder: sum % number as u64,
+        }
+    }
 }
 
 /// A line of the merge tree; `into` is 0 for a line that goes into none.

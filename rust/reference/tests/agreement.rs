@@ -4,7 +4,7 @@
 use reference::calls::{subset_count, Facts};
 use reference::definition;
 use reference::fast;
-use reference::network::{levels, Community, Link, Network};
+use reference::network::{levels, Community, Link, Mean, Network};
 use reference::published::plain_names;
 use reference::random::Random;
 use reference::sheets::{parse, parse_lists, sheet_bytes, LinksSoFar};
@@ -70,8 +70,35 @@ fn compare(network: &Network, k: usize, random: &mut Random) -> bool {
         assert_eq!(facts.maximal(t, stop), maximal.len());
     }
     assert_eq!(fast::tree(links, p, k), definition::tree(links, p, k));
+    compare_means(network, &facts, &cliques, k, random);
     compare_cliques(network, &facts, &cliques, k, random);
     true
+}
+
+/// Mean link weights at every level, just above it and at the ends, of a
+/// k-clique of the sheet and of a set near it.
+fn compare_means(network: &Network, facts: &Facts, cliques: &[u64], k: usize, random: &mut Random) {
+    let (p, links) = (network.names.len(), &network.links[..]);
+    let mut thresholds = levels(links);
+    thresholds.extend(levels(links).iter().map(|t| t + 1));
+    thresholds.extend([0, 65_535]);
+    for t in thresholds {
+        let near = match cliques {
+            [] => random.number() & random.number(),
+            _ => random.pick(cliques),
+        };
+        for set in [near, near ^ 1 << random.below(p + 1)] {
+            let expected = definition::family_links(links, p, k, t, set);
+            let found = facts.mean(t, set);
+            assert_eq!(found, expected.as_deref().map(Mean::of));
+            if let (Some(mean), Some(counted)) = (found, expected) {
+                let sum: u64 = counted.iter().map(|l| u64::from(l.weight)).sum();
+                assert!(counted.iter().all(|l| l.weight >= t));
+                assert!(mean.remainder < counted.len() as u64);
+                assert_eq!(mean.quotient * counted.len() as u64 + mean.remainder, sum);
+            }
+        }
+    }
 }
 
 fn compare_cliques(

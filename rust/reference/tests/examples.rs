@@ -4,7 +4,7 @@
 use reference::calls::{Judge, Outcome};
 use reference::definition;
 use reference::fast;
-use reference::network::{tree_text, Community, Link, Network};
+use reference::network::{tree_text, Community, Link, Mean, Network};
 use reference::published::{networks, plain_names, trees};
 use reference::sheets::sheet_bytes;
 use reference::steps::Steps;
@@ -28,6 +28,22 @@ fn expect(links: &[Link], p: usize, k: usize, t: u16, listing: &[(u64, u64)]) {
     assert_eq!(fast::listing(links, p, k, t), listing);
 }
 
+/// The sum, number, quotient and remainder of a family's link weights.
+fn expect_mean(links: &[Link], p: usize, k: usize, t: u16, clique: u64, numbers: [u64; 4]) {
+    let [sum, number, quotient, remainder] = numbers;
+    let mean = Mean {
+        sum,
+        links: number as usize,
+        quotient,
+        remainder,
+    };
+    let counted = definition::family_links(links, p, k, t, clique).expect("a k-clique");
+    assert_eq!(Mean::of(&counted), mean);
+    let mut cliques = fast::cliques(links, p, k);
+    cliques.retain(|c| c.weakest >= t);
+    assert_eq!(fast::means(links, &cliques)[&clique], mean);
+}
+
 fn two_triangles() -> Vec<Link> {
     let pairs = [(0, 1), (0, 2), (1, 2), (2, 3), (2, 4), (3, 4)];
     links(&pairs.map(|(a, b)| (a, b, 4)))
@@ -39,6 +55,10 @@ fn p1_to_p4() {
     expect(&sheet, 4, 3, 9, &[]);
     expect(&sheet, 4, 3, 8, &[(7, 7)]);
     expect(&sheet, 4, 3, 5, &[(7, 15)]);
+    expect_mean(&sheet, 4, 3, 8, 7, [26, 3, 8, 2]);
+    expect_mean(&sheet, 4, 3, 5, 7, [36, 5, 7, 1]);
+    expect_mean(&sheet, 4, 3, 5, 14, [36, 5, 7, 1]);
+    assert_eq!(definition::family_links(&sheet, 4, 3, 6, 14), None);
     assert_eq!(definition::meeting(&sheet, 4, 3, 7, 14), Some(5));
     assert_eq!(fast::meeting(&fast::cliques(&sheet, 4, 3), 7, 14), Some(5));
 }
@@ -74,12 +94,17 @@ fn p9_and_p10() {
     }
     ring.extend([(0, 5, 4), (5, 10, 4), (0, 10, 4)]);
     expect(&links(&ring), 11, 3, 4, &[(7, 2047), (1057, 1057)]);
+    // 0-5, 5-10 and 0-10 lie inside the large union, but in none of its cliques.
+    expect_mean(&links(&ring), 11, 3, 4, 7, [76, 19, 4, 0]);
+    expect_mean(&links(&ring), 11, 3, 4, 1057, [12, 3, 4, 0]);
     let mut two = Vec::new();
     for q in 0..6u8 {
         let reach = |r: &u8| *r < 4 || q > 1;
         two.extend((q + 1..6).filter(reach).map(|r| (q, r, 4)));
     }
     expect(&links(&two), 6, 4, 4, &[(15, 15), (60, 60)]);
+    expect_mean(&links(&two), 6, 4, 4, 60, [24, 6, 4, 0]);
+    expect_mean(&links(&two), 6, 3, 4, 7, [44, 11, 4, 0]);
 }
 
 #[test]

@@ -115,6 +115,9 @@ impl Trials {
             let [a, b] = [0, 1].map(|_| any_set(&mut self.random, &judge_k));
             self.meeting(&judge_k, run, a, b, lengths);
         }
+        let lengths = self.lengths(&judge_k, Run::Sequential, t);
+        let clique = any_set(&mut self.random, &judge_k);
+        self.family_mean(&judge_k, t, clique, lengths);
         let lengths = self.lengths(&judge_k, Run::Sequential, 0);
         let out = self.tree_output(&judge_k);
         self.tree(&judge_k, lengths, out);

@@ -1,7 +1,7 @@
 //! Each call made once with guarded space and compared with the reference.
 
 use families::lent;
-use reference::calls::{self, Expected, Judge, JudgeK, Left, Outcome, Run};
+use reference::calls::{self, Expected, ExpectedMean, Judge, JudgeK, Left, Outcome, Run};
 
 use crate::guarded::{Guarded, GuardedTables};
 use crate::trials::{hex, Trials};
@@ -23,6 +23,16 @@ pub struct Listing {
     pub t: u16,
     pub lengths: [usize; 4],
     pub out: usize,
+}
+
+/// The arguments of a family's mean link weight besides its sheet, with the
+/// lengths of the tables.
+#[derive(Clone, Copy, Debug)]
+pub struct FamilyMean {
+    pub k: usize,
+    pub t: u16,
+    pub clique: u64,
+    pub lengths: [usize; 4],
 }
 
 /// What is wrong with an outcome, unless it is as expected.
@@ -48,10 +58,28 @@ fn check_call(
 ) -> Result<(), String> {
     check_outcome(found, expected.outcome)?;
     out.check("output", &expected.output)?;
-    match expected.tables {
+    check_tables(tables, expected.tables)
+}
+
+fn check_tables(tables: &GuardedTables, left: Left) -> Result<(), String> {
+    match left {
         Left::Untouched => tables.check_untouched(),
         Left::Zero => tables.check_zero(),
     }
+}
+
+/// What is wrong with a mean link weight, in its numbers or tables.
+fn check_mean(
+    found: lent::Mean,
+    expected: &ExpectedMean,
+    tables: &GuardedTables,
+) -> Result<(), String> {
+    check_outcome(found.outcome, expected.outcome)?;
+    let numbers = [found.sum, found.quotient, found.remainder];
+    if numbers != [expected.sum, expected.quotient, expected.remainder] {
+        return Err(format!("expected {expected:?}\nfound    {found:?}"));
+    }
+    check_tables(tables, expected.tables)
 }
 
 impl Trials {
@@ -195,6 +223,27 @@ impl Trials {
                 "{run:?} meeting, k {k}, sets {a:#x} and {b:#x}, tables {lengths:?}, sheet {sheet}"
             )
         });
+    }
+
+    /// A family's mean link weight, with tables of these lengths.
+    pub fn family_mean(&mut self, judge: &JudgeK, t: u16, clique: u64, lengths: [usize; 4]) {
+        let call = FamilyMean {
+            k: judge.k(),
+            t,
+            clique,
+            lengths,
+        };
+        let expected = judge.family_mean(t, clique, lengths);
+        self.family_mean_as(judge.judge().sheet(), call, &expected);
+    }
+
+    /// A family's mean link weight, whose answer is known.
+    pub fn family_mean_as(&mut self, sheet: &[u8], call: FamilyMean, expected: &ExpectedMean) {
+        let sheet = Guarded::holding(&mut self.random, sheet);
+        let mut tables = GuardedTables::junk(&mut self.random, call.lengths);
+        let found = lent::family_mean(sheet.get(), call.k, call.t, call.clique, tables.lend_mut());
+        let verdict = check_mean(found, expected, &tables).and_then(|()| sheet.check("sheet", &[]));
+        self.expect(verdict, || format!("{call:?}, sheet {}", hex(sheet.get())));
     }
 
     /// A merge tree, with tables and an output of these lengths.

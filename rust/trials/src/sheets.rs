@@ -1,9 +1,46 @@
-//! Random networks, and the sheets of the bench's recipe.
+//! Random networks, networks by hand, and the sheets of the bench's recipe.
 
 use reference::fast;
 use reference::network::{Link, Network};
 use reference::published::plain_names;
 use reference::random::Random;
+
+/// A network of p parts with plain names, and these links.
+pub fn network(p: usize, links: &[(u8, u8, u16)]) -> Network {
+    let link = |&(lower, higher, weight): &(u8, u8, u16)| Link {
+        lower,
+        higher,
+        weight,
+    };
+    Network {
+        names: plain_names(p),
+        links: links.iter().map(link).collect(),
+    }
+}
+
+/// Document 01's example P8: two triangles of weight 4 and the link of weight
+/// 2 that joins them.
+pub fn p8() -> Network {
+    let pairs = [(0, 1), (0, 2), (1, 2), (2, 3), (2, 4), (3, 4)];
+    let mut links = pairs.map(|(a, b)| (a, b, 4)).to_vec();
+    links.push((1, 3, 2));
+    network(5, &links)
+}
+
+/// All pairs of parts linked at weight 1.
+pub fn complete(p: usize) -> Network {
+    let links = (0..p as u8).flat_map(|lower| {
+        (lower + 1..p as u8).map(move |higher| Link {
+            lower,
+            higher,
+            weight: 1,
+        })
+    });
+    Network {
+        names: plain_names(p),
+        links: links.collect(),
+    }
+}
 
 /// A random name: one to eight signs, then spaces.
 pub fn random_name(random: &mut Random) -> [u8; 8] {

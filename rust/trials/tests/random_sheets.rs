@@ -2,12 +2,11 @@
 
 use reference::calls::{slot_bound, Expected, Judge, JudgeK, Left, Outcome, Run};
 use reference::fast;
-use reference::network::{listing_bytes, Link, Network};
-use reference::published::plain_names;
+use reference::network::{listing_bytes, Network};
 use reference::sheets::sheet_bytes;
 use trials::arguments::{any_set, around, thresholds, RUNS};
 use trials::calls::Listing;
-use trials::sheets::{random_network, thin_out};
+use trials::sheets::{complete, random_network, thin_out};
 use trials::trials::hex;
 use trials::Trials;
 
@@ -98,20 +97,6 @@ fn meetings(trials: &mut Trials, judge: &JudgeK) {
             let slots = around(&mut trials.random, need);
             trials.meeting(judge, run, a, b, [slots; 4]);
         }
-    }
-}
-
-fn complete(p: usize) -> Network {
-    let links = (0..p as u8).flat_map(|lower| {
-        (lower + 1..p as u8).map(move |higher| Link {
-            lower,
-            higher,
-            weight: 1,
-        })
-    });
-    Network {
-        names: plain_names(p),
-        links: links.collect(),
     }
 }
 

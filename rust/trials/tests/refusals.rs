@@ -3,31 +3,11 @@
 
 use reference::calls::{Judge, Run};
 use reference::network::{Link, Network};
-use reference::published::plain_names;
 use reference::random::Random;
 use reference::sheets::{sheet_bytes, Refusal};
 use trials::arguments::{unequal, BAD_K, BAD_P, RUNS};
-use trials::sheets::{random_name, random_network, thin_out};
+use trials::sheets::{network, p8, random_name, random_network, thin_out};
 use trials::Trials;
-
-fn network(p: usize, links: &[(u8, u8, u16)]) -> Network {
-    let link = |&(lower, higher, weight): &(u8, u8, u16)| Link {
-        lower,
-        higher,
-        weight,
-    };
-    Network {
-        names: plain_names(p),
-        links: links.iter().map(link).collect(),
-    }
-}
-
-fn p8() -> Network {
-    let pairs = [(0, 1), (0, 2), (1, 2), (2, 3), (2, 4), (3, 4)];
-    let mut links = pairs.map(|(a, b)| (a, b, 4)).to_vec();
-    links.push((1, 3, 2));
-    network(5, &links)
-}
 
 fn random_sheet(random: &mut Random, p: usize) -> Network {
     let mut network = random_network(random, p);

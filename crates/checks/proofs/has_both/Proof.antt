@@ -1,7 +1,7 @@
 use mathlib.Core.Path.{sym, _∙_}
 use borrow.Author.Needs.{needs}
 use Rattle.sets.proofs.Tests.{and-stop, and-go}
-use Rattle.checks.specs.Inside.{inside}
+use Rattle.percolation.specs.Links.{inside}
 use Rattle.checks.proofs.has_both.Statement.{statement}
 use Rattle.checks.proofs.has_both.Tie as tie
 

@@ -4,7 +4,7 @@ use native.Mathlib.Omega.{arith}
 use Prim.Native.Nat.{ℕ, _+_, _-_, _*_, _≤_}
 use Rattle.percolation.specs.Links.{Link}
 use Rattle.sheet.specs.Sheet.{links, linkOf, linksOf}
-use Rattle.made.specs.Made.{weightSum}
+use Rattle.percolation.specs.Weights.{weightSum}
 use Rattle.dump.proofs.Added.{addedTo, added-none, added-more}
 use Rattle.dump.proofs.weight_sum.Statement.{statement}
 use Rattle.dump.proofs.weight_sum.Tie as tie

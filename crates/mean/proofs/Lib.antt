@@ -1,0 +1,4 @@
+pub mod Adding
+pub mod Calls
+pub mod Covering
+pub mod Gaining
