@@ -2,3 +2,4 @@ pub mod Adding
 pub mod Calls
 pub mod Covering
 pub mod Gaining
+pub mod Told
