@@ -11,6 +11,10 @@
  * call on a sheet do not matter; such a call that comes as far as 15 leaves them zero. families_slot_bound says how
  * many slots suffice.
  *
+ * The steps families_start, families_insert and families_take_back are lent a journal too. It has 2,016 entries, one for
+ * each possible link: the links that remain in order, each lower * 2^32 + higher * 2^16 + weight, then zeros. Tables and
+ * journal go together from step to step, as the step before left them. A refused step leaves both as they were.
+ *
  * number 0 is accepted. Any other number is a refusal, which writes no output:
  *    1 mark                2 version             3 length               4 part count not 1 to 64
  *    5 a name's form       6 a link's parts      7 weight 0             8 weight above the link before
@@ -18,6 +22,7 @@
  *   12 a state outside its ranges               13 a set that is no k-clique of the sheet (families_family_mean: at t)
  *   14 a part not below the part count          15 too few slots        16 an output too short
  *   17 a dump's mark, version or length         18 a row with a part not below the part count
+ *   19 a state with no link to take back        20 a journal of other than 2,016 entries
  * place is a byte of the sheet for 1 to 9 of a call that reads a sheet, a byte of the dump for 4, 5, 17 and 18 of
  * families_dump_sheet, else 0.
  */
@@ -32,7 +37,7 @@ extern "C" {
 #endif
 
 /* The number of the latest change request that has landed, in order of landing; 0: the base. */
-#define FAMILIES_EDITION 2
+#define FAMILIES_EDITION 3
 
 /* On a refusal count and parts are 0. parts is 0 from every call but families_read. */
 typedef struct {
@@ -43,16 +48,16 @@ typedef struct {
 } families_outcome;
 
 /*
- * What goes from step to step of the sequential run beside the tables: part count, k, used slots, the last accepted
- * weight (65,535 with no link), and the set of neighbours of each part. A state belongs to the tables that the same
- * step left. Any other state is safe to pass; its answer means nothing.
+ * What goes from step to step of the sequential run beside tables and journal: part count, k, used slots, the weight of
+ * the last link (65,535 with no link), how many links remain, and the set of neighbours of each part. A state belongs to
+ * the tables and the journal that the same step left. Any other state is safe to pass; its answer means nothing.
  */
 typedef struct {
-    size_t p, k, used, last;
+    size_t p, k, used, last, links;
     uint64_t rows[64];
 } families_state;
 
-/* A refused start returns a state of zeros, a refused insert the state that it was given. count is 0. */
+/* A refused start returns a state of zeros, a refused insert or taking back the state that it was given. count is 0. */
 typedef struct {
     families_outcome outcome;
     families_state state;
@@ -97,24 +102,47 @@ families_outcome families_slot_bound(size_t p, size_t k);
 /* C(n, r) for n 0 to 64 and r 0 to 6. count = C(n, r), 0 outside the table. */
 families_outcome families_subset_count(size_t n, size_t r);
 
-/* Begins a run link by link: no links, tables all zero. */
+/*
+ * Begins a run link by link: no links, tables and journal all zero, whatever they held. Refused in this order: 4, 10, 11,
+ * 20.
+ */
 families_started families_start(
     size_t p, size_t k,
     uint64_t *sets, size_t sets_length,
     uint32_t *entries, size_t entries_length,
     uint64_t *smallest, size_t smallest_length,
-    uint64_t *unions, size_t unions_length);
+    uint64_t *unions, size_t unions_length,
+    uint64_t *journal, size_t journal_length);
 
-/* One link more, in the tables that the step before left. A refused insert changes nothing. C cuts a weight above 65,535 silently. */
+/*
+ * One link more. Refused in this order: 11, 12, 20, then 6 to 9 against the links that remain, 15 for these and the new one
+ * together. C cuts a weight above 65,535 silently.
+ */
 families_started families_insert(
     families_state state,
     uint64_t *sets, size_t sets_length,
     uint32_t *entries, size_t entries_length,
     uint64_t *smallest, size_t smallest_length,
     uint64_t *unions, size_t unions_length,
+    uint64_t *journal, size_t journal_length,
     size_t lower, size_t higher, uint16_t weight);
 
-/* The listing of the links so far: 16 bytes a community, smallest clique then union. count = communities. */
+/*
+ * Takes the last of the links that remain away: then state, tables and journal are those of the others. Refused in this
+ * order: 11, 12, 20, 19.
+ */
+families_started families_take_back(
+    families_state state,
+    uint64_t *sets, size_t sets_length,
+    uint32_t *entries, size_t entries_length,
+    uint64_t *smallest, size_t smallest_length,
+    uint64_t *unions, size_t unions_length,
+    uint64_t *journal, size_t journal_length);
+
+/*
+ * The listing of the links that remain: 16 bytes a community, smallest clique then union. count = communities. It needs no
+ * journal. Refused in this order: 11, 12, 16.
+ */
 families_outcome families_listing_now(
     families_state state,
     const uint64_t *sets, size_t sets_length,

@@ -6,9 +6,9 @@
 #include "families.h"
 
 /* P8 and P9 need so many slots. */
-enum { SLOTS = 7, P9_SLOTS = 22, OUT = 128 };
+enum { SLOTS = 7, P9_SLOTS = 22, OUT = 128, JOURNAL = 2016 };
 
-static uint64_t sets[P9_SLOTS], smallest[P9_SLOTS], unions[P9_SLOTS];
+static uint64_t sets[P9_SLOTS], smallest[P9_SLOTS], unions[P9_SLOTS], journal[JOURNAL];
 static uint32_t entries[P9_SLOTS];
 static uint8_t sheet[OUT], out[OUT];
 
@@ -19,6 +19,7 @@ static const uint16_t higher[] = {1, 2, 2, 3, 4, 4, 3};
 static const uint16_t weights[] = {4, 4, 4, 4, 4, 4, 2};
 
 #define TABLES(n) sets, (n), entries, (n), smallest, (n), unions, (n)
+#define STEP(n) TABLES(n), journal, JOURNAL
 
 static void show(const char *call, families_outcome o)
 {
@@ -73,20 +74,69 @@ static size_t reads_and_writes(void)
     return o.count;
 }
 
-static void steps(size_t slots)
+static void show_state(families_state state)
 {
-    families_started s = families_start(5, 3, TABLES(slots));
+    printf("  p %zu k %zu used %zu last %zu links %zu neighbours of part 2: %" PRIu64 "\n", state.p, state.k, state.used, state.last,
+           state.links, state.rows[2]);
+}
+
+/* The last entry of the journal that is in use, and the one behind it. */
+static void show_journal(families_state state)
+{
+    for (size_t i = state.links > 0 ? state.links - 1 : 0; i <= state.links; i++)
+        printf("  journal entry %zu: %" PRIu64 "-%" PRIu64 " of %" PRIu64 "\n", i, journal[i] >> 32, journal[i] >> 16 & 65535,
+               journal[i] & 65535);
+}
+
+static void show_listing_now(families_state state, size_t slots)
+{
+    families_outcome o = families_listing_now(state, TABLES(slots), out, sizeof out);
+    show("listing now", o);
+    communities(o.count);
+}
+
+/* A start and the links of P8, as many as the slots allow. */
+static families_state steps(size_t slots)
+{
+    memset(journal, 9, sizeof journal);
+    families_started s = families_start(5, 3, STEP(slots));
     show("start", s.outcome);
-    printf("  p %zu k %zu used %zu last %zu\n", s.state.p, s.state.k, s.state.used, s.state.last);
+    show_state(s.state);
+    show_journal(s.state);
     for (size_t j = 0; j < 7; j++) {
-        s = families_insert(s.state, TABLES(slots), lower[j], higher[j], weights[j]);
+        s = families_insert(s.state, STEP(slots), lower[j], higher[j], weights[j]);
         if (s.outcome.number != 0 || j == 6)
             show("insert", s.outcome);
     }
-    printf("  used %zu last %zu neighbours of part 2: %" PRIu64 "\n", s.state.used, s.state.last, s.state.rows[2]);
-    families_outcome o = families_listing_now(s.state, TABLES(slots), out, sizeof out);
-    show("listing now", o);
-    communities(o.count);
+    show_state(s.state);
+    show_journal(s.state);
+    show_listing_now(s.state, slots);
+    return s.state;
+}
+
+/* From P8: one link taken back and another in its place, all taken back, and one link more than there are. */
+static void taken_back(families_state state)
+{
+    families_started s = families_take_back(state, STEP(SLOTS));
+    show("taking back", s.outcome);
+    show_state(s.state);
+    show_journal(s.state);
+    show_listing_now(s.state, SLOTS);
+    s = families_insert(s.state, STEP(SLOTS), 1, 3, 3);
+    show("insert, weight 3 after the 2 taken back", s.outcome);
+    show_journal(s.state);
+    show("taking back, an entry short", families_take_back(s.state, TABLES(SLOTS), journal, JOURNAL - 1).outcome);
+    show("insert, an entry short", families_insert(s.state, TABLES(SLOTS), journal, JOURNAL - 1, 0, 3, 1).outcome);
+    while (s.state.links > 0)
+        s = families_take_back(s.state, STEP(SLOTS));
+    show("taking back, the first link", s.outcome);
+    s = families_take_back(s.state, STEP(SLOTS));
+    show("taking back, no link", s.outcome);
+    show_state(s.state);
+    show_journal(s.state);
+    s = families_insert(s.state, STEP(SLOTS), 0, 1, 65535);
+    show("insert, weight 65535", s.outcome);
+    show_journal(s.state);
 }
 
 static void on_sheet(size_t length)
@@ -142,8 +192,9 @@ int main(void)
     show("slot bound", families_slot_bound(64, 6));
     show("slot bound, k 1", families_slot_bound(64, 1));
     show("subset count", families_subset_count(64, 5));
-    show("start, unequal tables", families_start(5, 3, sets, 7, entries, 6, smallest, 7, unions, 7).outcome);
-    steps(SLOTS);
+    show("start, unequal tables", families_start(5, 3, sets, 7, entries, 6, smallest, 7, unions, 7, journal, JOURNAL).outcome);
+    show("start, an entry short", families_start(5, 3, TABLES(SLOTS), journal, JOURNAL - 1).outcome);
+    taken_back(steps(SLOTS));
     steps(SLOTS - 1);
     on_sheet(length);
     means();

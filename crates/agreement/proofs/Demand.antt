@@ -1,5 +1,5 @@
--- Demand 3: every list of inserts, both runs on a sheet of the same links, the meeting weight by both runs, and any three meeting weights. Each is a
--- theorem over what the calls must do. Assumes nothing.
+-- Demand 3: every list of inserts and takings back, both runs on a sheet of the same links, the meeting weight by both runs, and any three meeting weights.
+-- Each is a theorem over what the calls must do. Assumes nothing.
 use mathlib.Core.Path.{_≡_, refl, sym, _∙_, subst}
 use mathlib.Core.Logic.{_↔_}
 use mathlib.Core.Bool.{Bool}
@@ -15,9 +15,9 @@ use Rattle.sets.specs.Lists.{_∈_}
 use Rattle.percolation.specs.Percolate.{Community, adjacent, Chain}
 use Rattle.percolation.specs.Links.{Link, family, listing}
 use Rattle.percolation.specs.Levels.{Meeting, met, never, meeting, weightOf, MeetsAt, TwoLowest}
-use Rattle.percolation.specs.Steps.{acceptedLinks}
+use Rattle.percolation.specs.Steps.{Step, remainingLinks}
 use Rattle.percolation.proofs.Ranges.{good-k}
-use Rattle.percolation.proofs.Accepted.{legal-positive, legal-none, accepted-legal}
+use Rattle.percolation.proofs.Accepted.{legal-positive, legal-none, remaining-legal}
 use Rattle.percolation.proofs.ChainClasses.{all-chains}
 use Rattle.percolation.proofs.Same.{legal-below, listing-same}
 use Rattle.percolation.proofs.Meet.{meeting-of, meeting-at, never-of, never-at, two-lowest}
@@ -33,27 +33,27 @@ use Rattle.runs.proofs.Admitted.{call-sheet, call-k}
 use Rattle.sequential.specs.declared.State.{State}
 use Rattle.sequential.specs.declared.Stepped.{Stepped}
 use Rattle.sequential.specs.Steps.{checkStart, StartMeets, ListingNowMeets}
-use Rattle.sequential.specs.EveryList.{Inserts, Claim}
+use Rattle.sequential.specs.EveryList.{Runs, Claim}
 use Rattle.sequential.proofs.Every.{every-list}
 use Rattle.meeting.specs.declared.Met.{Met}
 use Rattle.meeting.specs.Answers.{tells, meetSays, meetSay, meetingOf, checkPair, MeetingMeets}
 use Rattle.agreement.specs.Same.{HasLinks, GivesChains, EverySheet}
 
--- ---- 1 and 2: the listing of a list of inserts, and of every sheet with exactly the accepted links
+-- ---- 1 and 2: the listing of a list of steps, and of every sheet with exactly the links that remain
 
--- p, k and the tables' n slots are those of an accepted start, X the inserts; that any inserts leave legal links is all that is used
-module _ (p k n : ℕ) (X : List Link) where
+-- p, k and the tables' n slots are those of an accepted start, X the steps; that any steps leave legal links is all that is used
+module _ (p k n : ℕ) (X : List Step) where
   abbrev L : List Link
-  L = acceptedLinks p k n [] X
+  L = remainingLinks p k n [] X
 
   -- a sheet that has exactly these links, whatever its part count: its listing at threshold 0 is theirs
   sheet-listing : (s : List ℕ) → 2 ≤ k → HasLinks s L → listingOf s k 0 ≡ listing L p k 0
   unfolding listingOf
   sheet-listing s two same =
       listing-same (linksOf s) L (parts s) p k two (same .some) (same .each) (legal-below (parts s) (linksOf s) (sheet-legal s (same .fine)))
-      (legal-below p L (accepted-legal p k n [] X (legal-none p))) 0
+      (legal-below p L (remaining-legal p k n [] X (legal-none p))) 0
 
-  -- by either run (c is what its 15 counts), where it is not refused: the count and the bytes of the listing of the chain classes of the accepted links
+  -- by either run (c is what its 15 counts), where it is not refused: the count and the bytes of the listing of the chain classes of the links that remain
   pub sheet-gives : (s : List ℕ) → HasLinks s L → (c : ℕ) (T : Tables) (old : List ℕ) (r : Answer) (U : Tables) (out : List ℕ)
       → ListingMeets c s k 0 T old r U out → (j : ℕ) → says r ≡ counts j → GivesChains p k L old j out
   sheet-gives s same c T old r U out meets j e =
@@ -65,25 +65,26 @@ module _ (p k n : ℕ) (X : List Link) where
       }
 
   -- so does the listing now, where it is not refused
-  pub now-gives : (A : List Said) (S : State) (T : Tables) → Claim p k n X A S T → (old : List ℕ) (r : Answer) (out : List ℕ) → ListingNowMeets S T old r out
+  pub now-gives : (A : List Said) (S : State) (T : Tables) (J : List ℕ) → Claim p k n X A S T J → (old : List ℕ) (r : Answer) (out : List ℕ) → ListingNowMeets S T old r out
       → (j : ℕ) → says r ≡ counts j → GivesChains p k L old j out
-  now-gives A S T claim old r out now j e =
+  now-gives A S T J claim old r out now j e =
       let l = claim .now old r out now in record { chains = l .chains; gives = writes-gives _ _ old r out (l .lists) j e }
 
   -- both methods agree: the same count, and with the same output before it the same output
-  pub both-runs : (A : List Said) (S : State) (T : Tables) → Claim p k n X A S T → (old : List ℕ) (a : Answer) (x : List ℕ) → ListingNowMeets S T old a x
+  pub both-runs : (A : List Said) (S : State) (T : Tables) (J : List ℕ) → Claim p k n X A S T J → (old : List ℕ) (a : Answer) (x : List ℕ) → ListingNowMeets S T old a x
       → (s : List ℕ) → HasLinks s L → (c : ℕ) (Y : Tables) (b : Answer) (Z : Tables) (y : List ℕ) → ListingMeets c s k 0 Y old b Z y
       → (i j : ℕ) → says a ≡ counts i → says b ≡ counts j → (i ≡ j) × (x ≡ y)
-  both-runs A S T claim old a x now s same c Y b Z y meets i j e f =
-      let g = now-gives A S T claim old a x now i e .gives in
+  both-runs A S T J claim old a x now s same c Y b Z y meets i j e f =
+      let g = now-gives A S T J claim old a x now i e .gives in
       let h = sheet-gives s same c Y old b Z y meets j f .gives in
       (g .count ∙ sym (h .count), g .bytes ∙ sym (h .bytes))
 
--- the whole, from an accepted start on: the claim of every list, and either run on every sheet with the accepted links
-pub every-list-and-sheet : (p k : ℕ) (T : Tables) (r : Stepped) (U : Tables) → StartMeets p k T r U → checkStart p k T ≡ accepted
-    → (X : List Link) (A : List Said) (S : State) (W : Tables) → Inserts (r .state) U X A S W → EverySheet p k (length (T .entries)) X A S W
-every-list-and-sheet p k T r U m ok X A S W i =
-    record { claim = every-list p k T r U m ok X A S W i; sheets = sheet-gives p k (length (T .entries)) X }
+-- the whole, from an accepted start on: the claim of every list, and either run on every sheet with the links that remain
+pub every-list-and-sheet : (p k : ℕ) (T : Tables) (J : List ℕ) (r : Stepped) (U : Tables) (K : List ℕ) → StartMeets p k T J r U K
+    → checkStart p k T J ≡ accepted → (X : List Step) (A : List Said) (S : State) (W : Tables) (M : List ℕ) → Runs (r .state) U K X A S W M
+    → EverySheet p k (length (T .entries)) X A S W M
+every-list-and-sheet p k T J r U K m ok X A S W M i =
+    record { claim = every-list p k T J r U K m ok X A S W M i; sheets = sheet-gives p k (length (T .entries)) X }
 
 -- ---- 3: the meeting weight by either run, in the sense of chains
 

@@ -1,4 +1,4 @@
--- A sheet that has exactly the links of a list, equal weights in any order, and demand 3's claim on lists of inserts and such sheets. Assumes nothing.
+-- A sheet that has exactly the links of a list, equal weights in any order, and demand 3's claim on lists of inserts and takings back and such sheets. Assumes nothing.
 use mathlib.Core.Path.{_≡_}
 use mathlib.Core.List.{List, []}
 use Prim.Native.Nat.{ℕ}
@@ -8,7 +8,7 @@ use Rattle.answers.specs.declared.Answer.{Answer}
 use Rattle.sets.specs.Lists.{_∈_}
 use Rattle.percolation.specs.Percolate.{ChainListing}
 use Rattle.percolation.specs.Links.{Link, cliques, listing}
-use Rattle.percolation.specs.Steps.{acceptedLinks}
+use Rattle.percolation.specs.Steps.{Step, remainingLinks}
 use Rattle.slots.specs.Tables.{Tables}
 use Rattle.sheet.specs.Sheet.{linksOf, checkSheet}
 use Rattle.listings.specs.Listing.{Gives}
@@ -27,9 +27,9 @@ pub record GivesChains (p k : ℕ) (L : List Link) (old : List ℕ) (j : ℕ) (o
   pub chains : ChainListing k (cliques L p k) (listing L p k 0)
   pub gives : Gives (listing L p k 0) old j out
 
--- what is claimed of the inserts X, which gave the answers A and left the state S and the tables W, where the tables have n slots
-pub record EverySheet (p k n : ℕ) (X : List Link) (A : List Said) (S : State) (W : Tables) : Type 0 where
-  pub claim : Claim p k n X A S W
-  -- either run on a sheet with exactly the accepted links (c is what its 15 counts) gives their listing, or is refused
-  pub sheets : (s : List ℕ) → HasLinks s (acceptedLinks p k n [] X) → (c : ℕ) (T : Tables) (old : List ℕ) (r : Answer) (U : Tables) (out : List ℕ)
-      → ListingMeets c s k 0 T old r U out → (j : ℕ) → says r ≡ counts j → GivesChains p k (acceptedLinks p k n [] X) old j out
+-- what is claimed of the steps X, which gave the answers A and left the state S, the tables W and the journal J, where the tables have n slots
+pub record EverySheet (p k n : ℕ) (X : List Step) (A : List Said) (S : State) (W : Tables) (J : List ℕ) : Type 0 where
+  pub claim : Claim p k n X A S W J
+  -- either run on a sheet with exactly the links that remain (c is what its 15 counts) gives their listing, or is refused
+  pub sheets : (s : List ℕ) → HasLinks s (remainingLinks p k n [] X) → (c : ℕ) (T : Tables) (old : List ℕ) (r : Answer) (U : Tables) (out : List ℕ)
+      → ListingMeets c s k 0 T old r U out → (j : ℕ) → says r ≡ counts j → GivesChains p k (remainingLinks p k n [] X) old j out

@@ -6,6 +6,8 @@ mod say;
 
 pub use load::last_file;
 pub use load::read;
+pub use load::read_on;
+pub use refusal::few_slots;
 pub use refusal::refused;
 pub use refusal::tell;
 pub use refusal::tell_long;
@@ -16,6 +18,7 @@ pub use say::error_field;
 pub use say::error_of;
 pub use say::field;
 pub use say::number;
+pub use say::put;
 pub use say::text;
 
 // How many bytes were read, or that reading failed, which was told.

@@ -3,7 +3,9 @@ ghost use Rattle.console.specs.Loading.{Within};
 use crate::Loaded;
 
 // Reads once into buf, from n on: how many bytes came. That it failed is told by the input's name.
-fn read_on(fd: i32, name: &[u8], buf: &mut [u8], n: usize) -> Loaded {
+pub fn read_on(fd: i32, name: &[u8], buf: &mut [u8], n: usize) -> Loaded
+    ensures { λ r. ⌜ Within n r (now (buf .exit)) ⌝ }
+{
     if buf.len() < n {
         return Loaded::Failed;
     }
@@ -17,7 +19,7 @@ fn read_on(fd: i32, name: &[u8], buf: &mut [u8], n: usize) -> Loaded {
 
 // All of the input as far as buf has room.
 pub fn read(fd: i32, name: &[u8], buf: &mut [u8]) -> Loaded
-    ensures { λ r. ⌜ Within r (now (buf .exit)) ⌝ }
+    ensures { λ r. ⌜ Within 0 r (now (buf .exit)) ⌝ }
 {
     let mut n = 0;
     while n < buf.len() {
@@ -27,17 +29,13 @@ pub fn read(fd: i32, name: &[u8], buf: &mut [u8]) -> Loaded
         if more == 0 {
             return Loaded::Bytes(n);
         }
-        // no call reads more than it has room for
-        if buf.len() - n < more {
-            return Loaded::Failed;
-        }
         n += more;
     }
     Loaded::Bytes(n)
 }
 
 fn read_file(path: &[u8], buf: &mut [u8]) -> Loaded
-    ensures { λ r. ⌜ Within r (now (buf .exit)) ⌝ }
+    ensures { λ r. ⌜ Within 0 r (now (buf .exit)) ⌝ }
 {
     let fd = os::open_read(path);
     if fd < 0 {
@@ -51,7 +49,7 @@ fn read_file(path: &[u8], buf: &mut [u8]) -> Loaded
 
 // The file that the last argument names.
 pub fn last_file(buf: &mut [u8]) -> Loaded
-    ensures { λ r. ⌜ Within r (now (buf .exit)) ⌝ }
+    ensures { λ r. ⌜ Within 0 r (now (buf .exit)) ⌝ }
 {
     let count = os::arg_count();
     if count == 0 {

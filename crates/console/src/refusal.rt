@@ -1,6 +1,8 @@
 // A refusal in words: its number, its place, the part or the link that the place belongs to, and what is wrong.
 use crate::say::error;
 use crate::say::error_field;
+use crate::say::put;
+use libc::STDERR_FILENO;
 
 // Parts are counted from 0, as they are in the sheet.
 fn part_at(s: &[u8], place: usize) {
@@ -42,6 +44,13 @@ fn of_sheet(number: u8) {
     }
 }
 
+// 15, on standard error or on standard output.
+pub fn few_slots(fd: i32, slots: usize) {
+    put(fd, b"this takes more than the ");
+    io::print_decimal(fd, slots as u64);
+    put(fd, b" slots of this program");
+}
+
 // 10 to 16: what is wrong with a call.
 fn of_call(number: u8, slots: usize) {
     match number {
@@ -50,10 +59,7 @@ fn of_call(number: u8, slots: usize) {
         12 => error(b"the state is none that a step has left"),
         13 => error(b"each of the two sets must have k parts, each two of them linked"),
         14 => error(b"there is no part of this number"),
-        15 => {
-            error_field(b"this takes more than the ", slots);
-            error(b" slots of this program");
-        }
+        15 => few_slots(STDERR_FILENO, slots),
         16 => error(b"the answer is longer than the space for it"),
         _ => {}
     }

@@ -2,8 +2,13 @@
 use libc::STDERR_FILENO;
 use libc::STDOUT_FILENO;
 
+// Words that are an answer in one place and a complaint in another.
+pub fn put(fd: i32, t: &[u8]) {
+    io::write_all(fd, t);
+}
+
 pub fn text(t: &[u8]) {
-    io::write_all(STDOUT_FILENO, t);
+    put(STDOUT_FILENO, t);
 }
 
 pub fn number(n: usize) {
@@ -35,7 +40,7 @@ pub fn end() -> bool {
 }
 
 pub fn error(t: &[u8]) {
-    io::write_all(STDERR_FILENO, t);
+    put(STDERR_FILENO, t);
 }
 
 pub fn error_field(word: &[u8], n: usize) {

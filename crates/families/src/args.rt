@@ -16,6 +16,7 @@ pub enum Order {
     Tree(usize),
     Meet(usize, usize),
     Slots(usize),
+    Live(usize),
     Nothing,
 }
 
@@ -177,6 +178,16 @@ fn slots(count: usize) -> Order {
     Order::Slots(k)
 }
 
+fn live(count: usize) -> Order {
+    if count != 3 {
+        return nothing(b"live takes K: it answers lines of standard input");
+    }
+    let Number::Is(k) = k_at(2) else {
+        return Order::Nothing;
+    };
+    Order::Live(k)
+}
+
 fn command(word: &[u8], count: usize) -> Order {
     if same(word, b"help") {
         return Order::Help;
@@ -204,6 +215,9 @@ fn command(word: &[u8], count: usize) -> Order {
     }
     if same(word, b"slots") {
         return slots(count);
+    }
+    if same(word, b"live") {
+        return live(count);
     }
     nothing(b"no such command")
 }

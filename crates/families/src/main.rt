@@ -49,6 +49,7 @@ fn main() {
         Order::Help => usage::help(),
         Order::Pack => pack::pack(),
         Order::FromDump => from_dump::from_dump(),
+        Order::Live(k) => live::run(k),
         Order::Nothing => {}
         _ => on_sheet(order),
     }

@@ -8,35 +8,21 @@ use console::error;
 use console::error_field;
 use console::read;
 use console::refused;
+use libc::STDERR_FILENO;
 use libc::STDIN_FILENO;
 use libc::STDOUT_FILENO;
 use report::LINKS;
 use report::NAMES;
+use report::line_words;
 use report::tell;
 use text::Text;
-
-// What is wrong with a line of the text.
-fn fault_words(number: u8) {
-    match number {
-        4 => error(b"there must be 1 to 64 part lines"),
-        5 => error(b"a name must be 1 to 8 visible characters"),
-        6 => error(b"a link must have two different parts"),
-        7 => error(b"the weight is 0"),
-        9 => error(b"this pair of parts was given before"),
-        101 => error(b"neither \"part NAME\" nor \"link NAME NAME WEIGHT\""),
-        102 => error(b"this name was given before"),
-        103 => error(b"a link must name parts that have a part line"),
-        104 => error(b"the weight is not a number up to 65535"),
-        _ => error(b"too many links"),
-    }
-}
 
 // The place is the byte of the text where the line starts; lines are counted from 1.
 fn tell_fault(number: u8, place: usize, line: usize) {
     refused(number, place);
     error_field(b"line ", line);
     error(b": ");
-    fault_words(number);
+    line_words(STDERR_FILENO, number);
     error(b"\n");
 }
 

@@ -12,6 +12,7 @@ fn lines(fd: i32) {
     io::write_all(fd, b"  families tree K SHEET\n");
     io::write_all(fd, b"  families meet K NAME.. -- NAME.. SHEET\n");
     io::write_all(fd, b"  families slots K SHEET\n");
+    io::write_all(fd, b"  families live K\n");
 }
 
 pub fn help() {

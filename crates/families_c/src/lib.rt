@@ -15,7 +15,7 @@ ghost use Rattle.subsets.specs.Subsets.{tableCount, slotBound, checkBound};
 ghost use Rattle.slots.specs.Tables.{tables};
 ghost use Rattle.runs.specs.Lent.{lent};
 ghost use Rattle.runs.specs.OnSheet.{slotsFor, slotsOf, maximalsFor, ListingMeets};
-ghost use Rattle.sequential.specs.Steps.{StartMeets, InsertMeets, ListingNowMeets};
+ghost use Rattle.sequential.specs.Steps.{StartMeets, InsertMeets, BackMeets, ListingNowMeets};
 ghost use Rattle.meeting.specs.Answers.{meetSays, MeetingMeets};
 ghost use Rattle.mean.specs.Answers.{meanSays, MeanMeets};
 ghost use Rattle.meeting_maximal.specs.Fits.{levelsFit};
@@ -105,10 +105,11 @@ pub extern "C" fn families_start(
     entries: &mut [u32],
     smallest: &mut [u64],
     unions: &mut [u64],
+    journal: &mut [u64],
 ) -> Started
-    ensures { λ r. ⌜ ShowsStep (λ s. StartMeets p k (lent (now (sets .entry)) (now (entries .entry)) (now (smallest .entry)) (now (unions .entry))) s (lent (now (sets .exit)) (now (entries .exit)) (now (smallest .exit)) (now (unions .exit)))) r ⌝ }
+    ensures { λ r. ⌜ ShowsStep (λ s. StartMeets p k (lent (now (sets .entry)) (now (entries .entry)) (now (smallest .entry)) (now (unions .entry))) (now (journal .entry)) s (lent (now (sets .exit)) (now (entries .exit)) (now (smallest .exit)) (now (unions .exit))) (now (journal .exit))) r ⌝ }
 {
-    of_step(sequential::start(p, k, sets, entries, smallest, unions))
+    of_step(sequential::start(p, k, sets, entries, smallest, unions, journal))
 }
 
 // sequential::insert: count is 0.
@@ -119,11 +120,12 @@ pub extern "C" fn families_insert(
     entries: &mut [u32],
     smallest: &mut [u64],
     unions: &mut [u64],
+    journal: &mut [u64],
     lower: usize,
     higher: usize,
     weight: u16,
 ) -> Started
-    ensures { λ r. ⌜ ShowsStep (λ s. InsertMeets state (tables (now (sets .entry)) (now (entries .entry)) (now (smallest .entry)) (now (unions .entry)) (state .used)) (link lower higher weight) s (tables (now (sets .exit)) (now (entries .exit)) (now (smallest .exit)) (now (unions .exit)) (s .state .used))) r ⌝ }
+    ensures { λ r. ⌜ ShowsStep (λ s. InsertMeets state (tables (now (sets .entry)) (now (entries .entry)) (now (smallest .entry)) (now (unions .entry)) (state .used)) (now (journal .entry)) (link lower higher weight) s (tables (now (sets .exit)) (now (entries .exit)) (now (smallest .exit)) (now (unions .exit)) (s .state .used)) (now (journal .exit))) r ⌝ }
 {
     of_step(sequential::insert(
         state,
@@ -131,10 +133,26 @@ pub extern "C" fn families_insert(
         entries,
         smallest,
         unions,
+        journal,
         lower,
         higher,
         weight,
     ))
+}
+
+// sequential::take_back: count is 0.
+#[no_mangle]
+pub extern "C" fn families_take_back(
+    state: State,
+    sets: &mut [u64],
+    entries: &mut [u32],
+    smallest: &mut [u64],
+    unions: &mut [u64],
+    journal: &mut [u64],
+) -> Started
+    ensures { λ r. ⌜ ShowsStep (λ s. BackMeets state (tables (now (sets .entry)) (now (entries .entry)) (now (smallest .entry)) (now (unions .entry)) (state .used)) (now (journal .entry)) s (tables (now (sets .exit)) (now (entries .exit)) (now (smallest .exit)) (now (unions .exit)) (s .state .used)) (now (journal .exit))) r ⌝ }
+{
+    of_step(sequential::take_back(state, sets, entries, smallest, unions, journal))
 }
 
 // sequential::listing_now: count is the communities.

@@ -122,7 +122,3 @@ pairs-number zero = let e : length (pairs 0) ≡ 0 = omega (arith, pairs-length 
 pairs-number (suc n) =
     let less : suc n - 1 ≡ n = omega arith in
     omega (arith, pairs-length (suc n), suc-mul n (suc n), suc-mul n n, mul-suc n n, ap (λ (k : ℕ). suc n * k) less)
-
-pub pairs-most : (p : ℕ) → p ≤ 64 → length (pairs p) ≤ 2016
-pairs-most zero h = omega (arith, pairs-length 0)
-pairs-most (suc n) h = let k : n ≤ 63 = omega arith in omega (arith, pairs-length (suc n), suc-mul n (suc n), mul-suc n n, mul-le-mul k k)

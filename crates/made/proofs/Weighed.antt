@@ -6,6 +6,7 @@ use mathlib.Core.Bool.{Bool, true, false, not, _&&_}
 use mathlib.Core.List.{List, [], _∷_, _++_, map, append-nil, List·Memᴰ·head, List·Memᴰ·tail, List·Memᴰ·not-nil, List·Memᴰ·cases-cons, Memᴰ·map, Memᴰ·of-map}
 use Prim.Native.Nat.{ℕ, suc, _-_, _*_, _/_, _≤_, _<_}
 use native.Mathlib.Omega.{arith}
+use native.Mathlib.Nat.{mul-le-mul}
 use lib.Dec.{eqb}
 use lib.ListN.{length, length-map}
 use borrow.Author.Tests.{eqb-true, eqb-false, eq-eqb, ne-eqb, not-true}
@@ -13,10 +14,11 @@ use Rattle.sets.specs.Lists.{_∈_, all, keep, eachTwo}
 use Rattle.sets.proofs.Tests.{split, never, not-so, and-intro, and-left, and-right, or-left, or-cases, false-not}
 use Rattle.sets.proofs.ListLaws.{Holds, Distinct, all-at, all-of, keep-yes, keep-no, keep-at, keep-of, keep-append, distinct-le, map-append}
 use Rattle.percolation.specs.Links.{Link, link, joins}
+use Rattle.percolation.proofs.Accepted.{pairs-few}
 use Rattle.made.specs.Made.{pairs, ends, weighedOf, weighed, Picked, picksNone, leavesOut, picks, GoodLink, Proper}
 use Rattle.made.specs.Model.{withPair}
 use Rattle.made.proofs.Standing.{pair-none, pair-link}
-use Rattle.made.proofs.Pairs.{pairs-of, pairs-at, pairs-distinct, pairs-number, pairs-most}
+use Rattle.made.proofs.Pairs.{pairs-of, pairs-at, pairs-distinct}
 
 -- ---- a weight for each pair
 
@@ -140,14 +142,6 @@ joined p l m a b t = go (or-cases (eqb (m .low) (l .low) && eqb (m .high) (l .hi
         let y = eqb-true (m .high) (l .low) (and-right (eqb (m .low) (l .high)) (eqb (m .high) (l .low)) e) in
         absurd (omega (arith, a .lower, b .lower))
 
--- and the other way
-same-ends : (l m : Link) → ends m ≡ ends l → joins (l .low) (l .high) m ≡ true
-unfolding joins
-same-ends l m e =
-    or-left (eqb (m .low) (l .low) && eqb (m .high) (l .high)) _
-    (and-intro (eqb (m .low) (l .low)) (eqb (m .high) (l .high)) (eq-eqb (m .low) (l .low) (ap (λ (x : ℕ × ℕ). x .0) e))
-    (eq-eqb (m .high) (l .high) (ap (λ (x : ℕ × ℕ). x .1) e)))
-
 abbrev apart : Link → Link → Bool
 apart l m = not (joins (l .low) (l .high) m)
 
@@ -159,17 +153,6 @@ distinct-once p (l ∷ K) s d =
     (all-at (apart l) K (λ m i. false-not (joins (l .low) (l .high) m) (not-so (joins (l .low) (l .high) m)
     (λ t. d .0 (subst (λ (x : ℕ × ℕ). x ∈ map ends K) (joined p l m (s l (List·Memᴰ·head refl)) (s m (List·Memᴰ·tail i)) t) (Memᴰ·map ends i))))))
     (distinct-once p K (λ m i. s m (List·Memᴰ·tail i)) (d .1))
-
-once-distinct : (K : List Link) → eachTwo apart K ≡ true → Distinct (map ends K)
-unfolding eachTwo Distinct
-once-distinct [] t = tt
-once-distinct (l ∷ K) t = (fresh, once-distinct K (and-right (all (apart l) K) (eachTwo apart K) t))
-  where
-    fresh : ends l ∈ map ends K → ⊥
-    fresh i =
-        let r = Memᴰ·of-map ends K i in
-        let n = all-of (apart l) K (and-left (all (apart l) K) (eachTwo apart K) t) (r .1) in
-        never (joins (l .low) (l .high) (r .0)) (same-ends l (r .0) (r .2)) (not-true (joins (l .low) (l .high) (r .0)) n)
 
 -- links picked from the pairs of parts below p are such as a sheet can have
 pub picked-proper : (p : ℕ) (K : List Link) → Picked (pairs p) K → Proper p K
@@ -189,19 +172,13 @@ weighed-proper f most p = picked-proper p (weighedOf f (pairs p)) (weighed-picke
 -- ---- how many
 
 module _ (p : ℕ) (K : List Link) (ok : Proper p K) where
-  few : length K ≤ length (pairs p)
-  few = omega (arith, distinct-le (map ends K) (pairs p) (once-distinct K (ok .once)) inside, length-map K ends)
-    where
-      inside : Holds (pairs p) (map ends K)
-      inside e i =
-          let r = Memᴰ·of-map ends K i in
-          let s = ok .each (r .0) (r .1) in
-          subst (λ (x : ℕ × ℕ). x ∈ pairs p) (r .2) (pairs-at p (r .0 .low) (r .0 .high) (s .lower) (s .higher))
+  few : 2 * length K ≤ p * (p - 1)
+  few = pairs-few p K (λ l m. (ok .each l m .lower, ok .each l m .higher)) (ok .once)
 
   -- no more than pairs of parts
   pub proper-few : length K ≤ p * (p - 1) / 2
-  proper-few = omega (arith, few, pairs-number p)
+  proper-few = omega (arith, few)
 
   -- so that lists of 4,096 suffice
   pub proper-most : p ≤ 64 → length K ≤ 2016
-  proper-most h = omega (arith, few, pairs-most p h)
+  proper-most h = let less : p - 1 ≤ 63 = omega (arith, h) in omega (arith, few, mul-le-mul h less)

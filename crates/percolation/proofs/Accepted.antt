@@ -1,10 +1,11 @@
 -- What a link that passes 6 to 9 satisfies, legal lists of links and how long they are, and the accepted links of a list of inserts. Assumes nothing.
-use mathlib.Core.Path.{_≡_, refl, sym, ap, ap₂, _∙_, fun-ext}
+use mathlib.Core.Path.{_≡_, refl, sym, ap, ap₂, _∙_, fun-ext, subst}
+use mathlib.Core.Logic.{_⊎_, inl, inr}
 use mathlib.Core.Bool.{Bool, true, false, cond, not, _&&_, _||_, and-comm}
-use mathlib.Core.List.{List, [], _∷_, _++_, map, List·Memᴰ·head, List·Memᴰ·tail, List·Memᴰ·not-nil, Memᴰ·of-map}
-use Prim.Native.Nat.{ℕ, zero, suc, _+_, _*_, _/_, _%_, _≤_, _<_}
+use mathlib.Core.List.{List, [], _∷_, _++_, map, List·Memᴰ·head, List·Memᴰ·tail, List·Memᴰ·not-nil, Memᴰ·of-map, Memᴰ·append-left}
+use Prim.Native.Nat.{ℕ, zero, suc, _+_, _*_, _/_, _%_, _-_, _≤_, _<_}
 use native.Mathlib.Omega.{arith}
-use native.Mathlib.Nat.{suc-mul, mul-le-mul-right, mod-eq-of-lt, div-eq-of-lt, mul-add-mod-self-right, mul-add-div-right}
+use native.Mathlib.Nat.{suc-mul, mul-suc, mul-le-mul}
 use lib.Dec.{eqb, leb, ltb, leb·zero}
 use lib.ListN.{length, length-map}
 use borrow.Author.Tests.{ltb-true, ltb-false, lt-ltb, le-ltb, leb-true, le-leb, eqb-true, eqb-false, eq-eqb, ne-eqb, not-true}
@@ -12,12 +13,13 @@ use Rattle.answers.specs.Verdict.{Verdict, accepted, refused, _then_, unless, i
 use Rattle.answers.proofs.Laws.{last-go, then-left, then-right, then-both, unless-passed}
 use Rattle.sets.specs.Lists.{_∈_, any, all, eachTwo, below}
 use Rattle.sets.specs.Sets.{size, members, setsOf}
-use Rattle.sets.proofs.Tests.{never, iff, and-intro, and-left, and-right, or-left, false-not}
+use Rattle.sets.proofs.Tests.{never, iff, and-intro, and-left, and-right, or-left, false-not, lt-or-le}
 use Rattle.sets.proofs.ListLaws.{Holds, Distinct, distinct-le, below-at, below-length, no-member, all-of, all-not, all-more, keep-of, eachTwo-more, eachTwo-later, eachTwo-some}
 use Rattle.sets.proofs.Members.{members-length, sets-of}
 use Rattle.percolation.specs.Links.{Link, joins, linked, clique, cliques, slotSets, slots}
-use Rattle.percolation.proofs.SlotCount.{slot-of}
-use Rattle.percolation.specs.Steps.{goodParts, rises, checkLink, legal, enough, checkInsert, accept, acceptedLinks, insertAnswers}
+use Rattle.percolation.proofs.SlotCount.{Slot, slot-of, slot-at, slots-distinct}
+use Rattle.percolation.proofs.Families.{linked-mono, cliques-mono}
+use Rattle.percolation.specs.Steps.{goodParts, rises, checkLink, legal, enough, checkInsert, accept, Step, insert, back, front, checkBack, checkStep, afterStep, remainingLinks, stepAnswers}
 
 -- ---- 6 to 9
 
@@ -208,6 +210,63 @@ pub none-fit : (p k n : ℕ) → 2 ≤ k → enough n (slots p k (cliques [] p k
 unfolding enough
 none-fit p k n two = rw (cliques-none p k two, slots-none) (and-intro (leb 0 n) true (leb·zero n) refl)
 
+-- ---- the last link taken back
+
+pub front-more : (L : List Link) (l : Link) → front (L ++ (l ∷ [])) ≡ L
+unfolding front
+front-more [] l = refl
+front-more (b ∷ []) l = refl
+front-more (b ∷ c ∷ L) l = ap (λ (M : List Link). b ∷ M) (front-more (c ∷ L) l)
+
+-- links of which there is one or more: the last, behind the others
+pub last-split : (l : Link) (L : List Link) → (m : Link) × (l ∷ L ≡ front (l ∷ L) ++ (m ∷ []))
+unfolding front
+last-split l [] = (l, refl)
+last-split l (b ∷ L) = let r = last-split b L in (r .0, ap (λ (M : List Link). l ∷ M) (r .1))
+
+-- what holds of links where it holds of them with one more, holds without the last
+front-keeps : (P : List Link → Type 0) → ((L : List Link) (l : Link) → P (L ++ (l ∷ [])) → P L) → (L : List Link) → P L → P (front L)
+unfolding front
+front-keeps P f [] h = h
+front-keeps P f (l ∷ L) h = let r = last-split l L in f (front (l ∷ L)) (r .0) (subst P (r .1) h)
+
+pub front-legal : (p : ℕ) (L : List Link) → legal p L ≡ true → legal p (front L) ≡ true
+front-legal p L ok = front-keeps (λ M. legal p M ≡ true) (λ M l h. legal-init p M l 0 h .0) L ok
+
+-- fewer links need no more slots
+pub slots-fewer : (p k : ℕ) (L : List Link) (l : Link) → slots p k (cliques L p k) ≤ slots p k (cliques (L ++ (l ∷ [])) p k)
+unfolding slots
+slots-fewer p k L l = distinct-le (slotSets p k F) (slotSets p k G) (slots-distinct p k F) (λ s m. slot-at p k G s (wider s (slot-of p k F s m)))
+  where
+    F : List ℕ
+    F = cliques L p k
+
+    G : List ℕ
+    G = cliques (L ++ (l ∷ [])) p k
+
+    wider : (s : ℕ) → Slot p k F s → Slot p k G s
+    wider s h = record {
+      fits = h .fits;
+      sized = h .sized;
+      bearer = h .bearer;
+      member = cliques-mono L (L ++ (l ∷ [])) p p k (linked-mono L (L ++ (l ∷ [])) (λ x m. Memᴰ·append-left (l ∷ []) m)) (omega arith) (h .bearer) (h .member);
+      within = h .within;
+    }
+
+pub front-fit : (p k n : ℕ) (L : List Link) → enough n (slots p k (cliques L p k)) ≡ true → enough n (slots p k (cliques (front L) p k)) ≡ true
+unfolding enough
+front-fit p k n L h = front-keeps (λ M. leb (slots p k (cliques M p k)) n && leb (slots p k (cliques M p k)) 16777216 ≡ true) step L h
+  where
+    step : (M : List Link) (l : Link) → leb (slots p k (cliques (M ++ (l ∷ [])) p k)) n && leb (slots p k (cliques (M ++ (l ∷ [])) p k)) 16777216 ≡ true
+        → leb (slots p k (cliques M p k)) n && leb (slots p k (cliques M p k)) 16777216 ≡ true
+    step M l e =
+        let c = slots p k (cliques M p k) in
+        let d = slots p k (cliques (M ++ (l ∷ [])) p k) in
+        let f = slots-fewer p k M l in
+        let a = leb-true d n (and-left (leb d n) (leb d 16777216) e) in
+        let b = leb-true d 16777216 (and-right (leb d n) (leb d 16777216) e) in
+        and-intro (leb c n) (leb c 16777216) (le-leb c n (omega (arith, f, a))) (le-leb c 16777216 (omega (arith, f, b)))
+
 -- ---- inserts
 
 module _ (p k n : ℕ) where
@@ -239,91 +298,138 @@ module _ (p k n : ℕ) where
         go accepted e = rw (accepted-adds L l e) (step L l h e)
         go (refused a b) e = rw (refused-keeps L l a b e) h
 
-    pub inserts-keep : (L X : List Link) → P L → P (acceptedLinks p k n L X)
-    unfolding acceptedLinks
-    inserts-keep L [] h = h
-    inserts-keep L (x ∷ X) h = inserts-keep (accept p k n L x) X (accept-keeps L x h)
+    -- what taking back keeps too, a list of steps keeps
+    module _ (off : (L : List Link) → P L → P (front L)) where
+      pub step-keeps : (L : List Link) (x : Step) → P L → P (afterStep p k n L x)
+      unfolding afterStep
+      step-keeps L (insert l) h = accept-keeps L l h
+      step-keeps L back h = off L h
+
+      pub steps-keep : (L : List Link) (X : List Step) → P L → P (remainingLinks p k n L X)
+      unfolding remainingLinks
+      steps-keep L [] h = h
+      steps-keep L (x ∷ X) h = steps-keep (afterStep p k n L x) X (step-keeps L x h)
 
   legal-step : (L : List Link) (l : Link) → legal p L ≡ true → checkInsert p k n L l ≡ accepted → legal p (L ++ (l ∷ [])) ≡ true
   legal-step L l ok e = legal-more p L l 0 ok (insert-checks L l e)
 
-  pub accepted-legal : (L X : List Link) → legal p L ≡ true → legal p (acceptedLinks p k n L X) ≡ true
-  accepted-legal L X ok = inserts-keep (λ M. legal p M ≡ true) legal-step L X ok
+  pub remaining-legal : (L : List Link) (X : List Step) → legal p L ≡ true → legal p (remainingLinks p k n L X) ≡ true
+  remaining-legal L X ok = steps-keep (λ M. legal p M ≡ true) legal-step (front-legal p) L X ok
 
-  -- the accepted links have slots in the tables
-  pub accepted-fit : (L X : List Link) → enough n (slots p k (cliques L p k)) ≡ true → enough n (slots p k (cliques (acceptedLinks p k n L X) p k)) ≡ true
-  accepted-fit L X h = inserts-keep (λ M. enough n (slots p k (cliques M p k)) ≡ true) (λ M l _ e. insert-fits M l e) L X h
+  -- the links that remain have slots in the tables
+  pub remaining-fit : (L : List Link) (X : List Step) → enough n (slots p k (cliques L p k)) ≡ true
+      → enough n (slots p k (cliques (remainingLinks p k n L X) p k)) ≡ true
+  remaining-fit L X h = steps-keep (λ M. enough n (slots p k (cliques M p k)) ≡ true) (λ M l _ e. insert-fits M l e) (front-fit p k n) L X h
 
-  pub answers-length : (L X : List Link) → length (insertAnswers p k n L X) ≡ length X
-  unfolding insertAnswers
+  pub answers-length : (L : List Link) (X : List Step) → length (stepAnswers p k n L X) ≡ length X
+  unfolding stepAnswers
   answers-length L [] = refl
-  answers-length L (x ∷ X) = ap suc (answers-length (accept p k n L x) X)
+  answers-length L (x ∷ X) = ap suc (answers-length (afterStep p k n L x) X)
 
-  pub accepted-append : (L X Y : List Link) → acceptedLinks p k n L (X ++ Y) ≡ acceptedLinks p k n (acceptedLinks p k n L X) Y
-  unfolding acceptedLinks
-  accepted-append L [] Y = refl
-  accepted-append L (x ∷ X) Y = accepted-append (accept p k n L x) X Y
+  pub remaining-append : (L : List Link) (X Y : List Step) → remainingLinks p k n L (X ++ Y) ≡ remainingLinks p k n (remainingLinks p k n L X) Y
+  unfolding remainingLinks
+  remaining-append L [] Y = refl
+  remaining-append L (x ∷ X) Y = remaining-append (afterStep p k n L x) X Y
 
-  pub answers-append : (L X Y : List Link) → insertAnswers p k n L (X ++ Y) ≡ insertAnswers p k n L X ++ insertAnswers p k n (acceptedLinks p k n L X) Y
-  unfolding insertAnswers acceptedLinks
+  pub answers-append : (L : List Link) (X Y : List Step)
+      → stepAnswers p k n L (X ++ Y) ≡ stepAnswers p k n L X ++ stepAnswers p k n (remainingLinks p k n L X) Y
+  unfolding stepAnswers remainingLinks
   answers-append L [] Y = refl
-  answers-append L (x ∷ X) Y = ap (λ (r : List Verdict). checkInsert p k n L x ∷ r) (answers-append (accept p k n L x) X Y)
+  answers-append L (x ∷ X) Y = ap (λ (r : List Verdict). checkStep p k n L x ∷ r) (answers-append (afterStep p k n L x) X Y)
 
--- ---- a legal list has at most p * p links
+  -- an accepted insert taken back: the links are as before it
+  pub back-undoes : (L : List Link) (l : Link) → checkInsert p k n L l ≡ accepted → remainingLinks p k n L (insert l ∷ back ∷ []) ≡ L
+  unfolding remainingLinks afterStep
+  back-undoes L l e = ap front (accepted-adds L l e) ∙ front-more L l
 
--- one number for each pair, below p * p
-abbrev pairOf : ℕ → Link → ℕ
-pairOf p l = l .low * p + l .high
+-- ---- a legal list has at most p * (p - 1) / 2 links
 
-pair-below : (p : ℕ) (l : Link) → goodParts p l ≡ true → pairOf p l < p * p
-pair-below p l t =
-    let g = good-parts p l t in
-    let low : suc (l .low) ≤ p = omega arith in
-    omega (arith, mul-le-mul-right p low, suc-mul (l .low) p)
+-- how many pairs of parts are below h: one for each pair
+abbrev pairsBelow : ℕ → ℕ
+pairsBelow zero = 0
+pairsBelow (suc h) = pairsBelow h + h
 
-pair-low : (p a b : ℕ) → b < p → (a * p + b) / p ≡ a
-pair-low p a b h = let pos : 0 < p = omega arith in omega (arith, mul-add-div-right pos a b, div-eq-of-lt h)
+pairs-rise : (a b : ℕ) → a < b → pairsBelow a + a ≤ pairsBelow b
+pairs-rise a zero h = let z : ⊥ = omega arith in absurd z
+pairs-rise a (suc b) h = go (pairs-rise a b) (lt-or-le a b)
+  where
+    go : (a < b → pairsBelow a + a ≤ pairsBelow b) → (a < b) ⊎ (b ≤ a) → pairsBelow a + a ≤ pairsBelow b + b
+    go ih (inl l) = omega (arith, ih l)
+    go ih (inr m) = let e : a ≡ b = omega (arith, m, h) in let f : pairsBelow a + a ≡ pairsBelow b + b = ap (λ (x : ℕ). pairsBelow x + x) e in omega (arith, f)
 
-pair-high : (p a b : ℕ) → b < p → (a * p + b) % p ≡ b
-pair-high p a b h = mul-add-mod-self-right a p b ∙ mod-eq-of-lt h
+twice-pairs : (p : ℕ) → 2 * pairsBelow p ≡ p * (p - 1)
+twice-pairs zero = refl
+twice-pairs (suc zero) = refl
+twice-pairs (suc (suc q)) =
+    let less : suc q - 1 ≡ q = omega arith in
+    let ih : 2 * pairsBelow (suc q) ≡ suc q * q = twice-pairs (suc q) ∙ ap (λ (x : ℕ). suc q * x) less in
+    let more : suc (suc q) - 1 ≡ suc q = omega arith in
+    let s : suc (suc q) * suc q ≡ suc q * suc q + suc q = suc-mul (suc q) (suc q) in
+    let m : suc q * suc q ≡ suc q * q + suc q = mul-suc (suc q) q in
+    let e : 2 * pairsBelow (suc (suc q)) ≡ suc (suc q) * suc q = omega (arith, ih, s, m) in
+    e ∙ ap (λ (x : ℕ). suc (suc q) * x) (sym more)
 
-pair-same : (p : ℕ) (l m : Link) → l .high < p → m .high < p → pairOf p l ≡ pairOf p m → joins (l .low) (l .high) m ≡ true
+-- the number of a pair
+abbrev pairNumber : Link → ℕ
+pairNumber l = pairsBelow (l .high) + l .low
+
+number-below : (p : ℕ) (l : Link) → l .low < l .high → l .high < p → pairNumber l < pairsBelow p
+number-below p l g h = omega (arith, g, pairs-rise (l .high) p h)
+
+number-same : (l m : Link) → l .low < l .high → m .low < m .high → pairNumber l ≡ pairNumber m → joins (l .low) (l .high) m ≡ true
 unfolding joins
-pair-same p l m h g e =
-    let low : m .low ≡ l .low = sym (pair-low p (m .low) (m .high) g) ∙ ap (λ (n : ℕ). n / p) (sym e) ∙ pair-low p (l .low) (l .high) h in
-    let high : m .high ≡ l .high = sym (pair-high p (m .low) (m .high) g) ∙ ap (λ (n : ℕ). n % p) (sym e) ∙ pair-high p (l .low) (l .high) h in
+number-same l m g h e =
     or-left (eqb (m .low) (l .low) && eqb (m .high) (l .high)) _
     (and-intro (eqb (m .low) (l .low)) (eqb (m .high) (l .high)) (eq-eqb (m .low) (l .low) low) (eq-eqb (m .high) (l .high) high))
-
-pairs-distinct : (p : ℕ) (L : List Link) → all (fits p) L ≡ true → eachTwo apart L ≡ true → Distinct (map (pairOf p) L)
-unfolding all eachTwo Distinct
-pairs-distinct p [] f a = tt
-pairs-distinct p (l ∷ L) f a = (fresh, pairs-distinct p L (and-right (fits p l) (all (fits p) L) f) (and-right (all (apart l) L) (eachTwo apart L) a))
   where
-    high : (m : Link) → m ∈ (l ∷ L) → m .high < p
-    high m i = good-parts p m (and-left (goodParts p m) (leb 1 (m .weight)) (all-of (fits p) (l ∷ L) f i)) .1
+    go : (l .high < m .high) ⊎ (m .high ≤ l .high) → (m .high < l .high) ⊎ (l .high ≤ m .high) → m .high ≡ l .high
+    go (inl a) b = let z : ⊥ = omega (arith, pairs-rise (l .high) (m .high) a, g, h, e) in absurd z
+    go (inr a) (inl b) = let z : ⊥ = omega (arith, pairs-rise (m .high) (l .high) b, g, h, e) in absurd z
+    go (inr a) (inr b) = omega (arith, a, b)
 
-    fresh : pairOf p l ∈ map (pairOf p) L → ⊥
+    high : m .high ≡ l .high
+    high = go (lt-or-le (l .high) (m .high)) (lt-or-le (m .high) (l .high))
+
+    low : m .low ≡ l .low
+    low = let f : pairsBelow (m .high) ≡ pairsBelow (l .high) = ap pairsBelow high in omega (arith, f, e)
+
+numbers-distinct : (L : List Link) → ((l : Link) → l ∈ L → l .low < l .high) → eachTwo apart L ≡ true → Distinct (map pairNumber L)
+unfolding eachTwo Distinct
+numbers-distinct [] f a = tt
+numbers-distinct (l ∷ L) f a = (fresh, numbers-distinct L (λ m i. f m (List·Memᴰ·tail i)) (and-right (all (apart l) L) (eachTwo apart L) a))
+  where
+    fresh : pairNumber l ∈ map pairNumber L → ⊥
     fresh i =
-        let r = Memᴰ·of-map (pairOf p) L i in
-        let t = pair-same p l (r .0) (high l (List·Memᴰ·head refl)) (high (r .0) (List·Memᴰ·tail (r .1))) (sym (r .2)) in
+        let r = Memᴰ·of-map pairNumber L i in
+        let t = number-same l (r .0) (f l (List·Memᴰ·head refl)) (f (r .0) (List·Memᴰ·tail (r .1))) (sym (r .2)) in
         let n = all-of (apart l) L (and-left (all (apart l) L) (eachTwo apart L) a) (r .1) in
         never (joins (l .low) (l .high) (r .0)) t (not-true (joins (l .low) (l .high) (r .0)) n)
 
-pub legal-few : (p : ℕ) (L : List Link) → legal p L ≡ true → length L ≤ p * p
-legal-few p L ok =
+-- links of parts below p, no pair twice, in any order
+pub pairs-few : (p : ℕ) (L : List Link) → ((l : Link) → l ∈ L → (l .low < l .high) × (l .high < p)) → eachTwo apart L ≡ true → 2 * length L ≤ p * (p - 1)
+pairs-few p L good once =
     omega (
       arith,
-      distinct-le (map (pairOf p) L) (below (p * p)) (pairs-distinct p L (legal-fits p L ok) (legal-apart p L ok)) inside,
-      length-map L (pairOf p),
-      below-length (p * p),
+      distinct-le (map pairNumber L) (below (pairsBelow p)) (numbers-distinct L (λ l m. good l m .0) once) inside,
+      length-map L pairNumber,
+      below-length (pairsBelow p),
+      twice-pairs p,
     )
   where
-    inside : Holds (below (p * p)) (map (pairOf p) L)
+    inside : Holds (below (pairsBelow p)) (map pairNumber L)
     inside x i =
-        let r = Memᴰ·of-map (pairOf p) L i in
-        let b = pair-below p (r .0) (legal-parts p L ok (r .0) (r .1)) in
-        below-at x (p * p) (omega (arith, r .2))
+        let r = Memᴰ·of-map pairNumber L i in
+        let g = good (r .0) (r .1) in
+        below-at x (pairsBelow p) (omega (arith, r .2, number-below p (r .0) (g .0) (g .1)))
+
+pub legal-pairs : (p : ℕ) (L : List Link) → legal p L ≡ true → 2 * length L ≤ p * (p - 1)
+legal-pairs p L ok = pairs-few p L (λ l m. good-parts p l (legal-parts p L ok l m)) (legal-apart p L ok)
+
+-- as many as there are pairs of the most parts
+pub legal-most : (p : ℕ) (L : List Link) → p ≤ 64 → legal p L ≡ true → length L ≤ 2016
+legal-most p L wide ok =
+    let less : p - 1 ≤ 63 = omega (arith, wide) in
+    omega (arith, legal-pairs p L ok, mul-le-mul wide less)
 
 -- ---- links one after the other: f 0, f 1, .. where `before j` are those before f j
 

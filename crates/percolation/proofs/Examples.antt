@@ -1,7 +1,7 @@
 -- P1 to P10 hold: one computed test over the table of specs/Examples.antt, one theorem, and closed facts beside it. Assumes nothing.
 use mathlib.Core.Path.{_≡_, refl, ap, ap₂}
 use mathlib.Core.Bool.{Bool, true, false, _&&_}
-use mathlib.Core.List.{List, [], _∷_, _++_}
+use mathlib.Core.List.{List, [], _∷_, _++_, map}
 use Prim.Native.Nat.{ℕ}
 use lib.Dec.{eqb}
 use borrow.Author.Tests.{eqb-true}
@@ -12,10 +12,10 @@ use Rattle.sets.proofs.ListLaws.{all-of}
 use Rattle.percolation.specs.Percolate.{overlap, joinedBy, Community, shown, listingBytes}
 use Rattle.percolation.specs.Links.{Link, link, listing, slots, family, maximals}
 use Rattle.percolation.specs.Levels.{Meeting, met, never, meeting}
-use Rattle.percolation.specs.Steps.{insertAnswers}
+use Rattle.percolation.specs.Steps.{Step, insert, back, remainingLinks, stepAnswers}
 use Rattle.percolation.specs.Tree.{Line, line, tree, treeBytes}
 use Rattle.percolation.specs.Mean.{familyLinks, Mean, mean, meanOf}
-use Rattle.percolation.specs.Examples.{Asked, lists, meets, needs, gets, grows, weighs, Row, Says, RowHolds, table, sheet1, sheet5, sheet8, sheet9, sheet10}
+use Rattle.percolation.specs.Examples.{Asked, lists, meets, needs, gets, leaves, grows, weighs, Row, Says, RowHolds, table, sheet1, sheet5, sheet8, sheet9, sheet10}
 
 -- ---- the test
 
@@ -40,6 +40,9 @@ sameVerdict accepted (refused n a) = false
 sameVerdict (refused n a) accepted = false
 sameVerdict (refused n a) (refused m b) = eqb n m && eqb a b
 
+abbrev sameLink : Link → Link → Bool
+sameLink x y = eqb (x .low) (y .low) && (eqb (x .high) (y .high) && eqb (x .weight) (y .weight))
+
 abbrev sameLine : Line → Line → Bool
 sameLine x y =
     eqb (x .weight) (y .weight)
@@ -49,11 +52,12 @@ abbrev sameMean : Mean → Mean → Bool
 sameMean x y = eqb (x .sum) (y .sum) && eqb (x .links) (y .links) && (eqb (x .quotient) (y .quotient) && eqb (x .remainder) (y .remainder))
 
 test : List Link → ℕ → ℕ → Asked → Bool
-unfolding listing meeting slots family insertAnswers tree meanOf familyLinks
+unfolding listing meeting slots family remainingLinks stepAnswers tree meanOf familyLinks
 test L p k (lists t C) = sameList sameShown (listing L p k t) C
 test L p k (meets a b m) = sameMeeting (meeting L p k a b) m
 test L p k (needs t n) = eqb (slots p k (family L p k t)) n
-test L p k (gets n r) = sameList sameVerdict (insertAnswers p k n [] L) r
+test L p k (gets n X r) = sameList sameVerdict (stepAnswers p k n [] (map insert L ++ X)) r
+test L p k (leaves n X M) = sameList sameLink (remainingLinks p k n [] (map insert L ++ X)) M
 test L p k (grows X) = sameList sameLine (tree L p k) X
 test L p k (weighs t c m) = sameMean (meanOf (familyLinks L p k t c)) m
 
@@ -92,6 +96,14 @@ verdict-same accepted (refused n a) t = clash false t refl
 verdict-same (refused n a) accepted t = clash false t refl
 verdict-same (refused n a) (refused m b) t = both-same refused n m a b t
 
+link-same : (x y : Link) → sameLink x y ≡ true → x ≡ y
+link-same x y t =
+    let r = and-right (eqb (x .low) (y .low)) (eqb (x .high) (y .high) && eqb (x .weight) (y .weight)) t in
+    let e₀ = eqb-true (x .low) (y .low) (and-left (eqb (x .low) (y .low)) (eqb (x .high) (y .high) && eqb (x .weight) (y .weight)) t) in
+    let e₁ = eqb-true (x .high) (y .high) (and-left (eqb (x .high) (y .high)) (eqb (x .weight) (y .weight)) r) in
+    let e₂ = eqb-true (x .weight) (y .weight) (and-right (eqb (x .high) (y .high)) (eqb (x .weight) (y .weight)) r) in
+    λ i. link (e₀ i) (e₁ i) (e₂ i)
+
 line-same : (x y : Line) → sameLine x y ≡ true → x ≡ y
 line-same x y t =
     let d = eqb (x .small) (y .small) && eqb (x .whole) (y .whole) in
@@ -119,7 +131,8 @@ unfolding test
 sound L p k (lists t C) h = list-same sameShown shown-same (listing L p k t) C h
 sound L p k (meets a b m) h = meeting-same (meeting L p k a b) m h
 sound L p k (needs t n) h = eqb-true (slots p k (family L p k t)) n h
-sound L p k (gets n r) h = list-same sameVerdict verdict-same (insertAnswers p k n [] L) r h
+sound L p k (gets n X r) h = list-same sameVerdict verdict-same (stepAnswers p k n [] (map insert L ++ X)) r h
+sound L p k (leaves n X M) h = list-same sameLink link-same (remainingLinks p k n [] (map insert L ++ X)) M h
 sound L p k (grows X) h = list-same sameLine line-same (tree L p k) X h
 sound L p k (weighs t c m) h = mean-same (meanOf (familyLinks L p k t c)) m h
 
@@ -156,10 +169,10 @@ unfolding maximals
 maximals10 = refl
 
 -- inserts that get 6, 7, 8 and 9, and are followed by ones that are accepted
-pub refusals : insertAnswers 3 3 10 []
-    (link 1 0 5 ∷ link 0 3 5 ∷ link 0 1 0 ∷ link 0 1 5 ∷ link 0 2 6 ∷ link 0 2 5 ∷ link 0 1 4 ∷ link 1 2 4 ∷ [])
+pub refusals : stepAnswers 3 3 10 []
+    (map insert (link 1 0 5 ∷ link 0 3 5 ∷ link 0 1 0 ∷ link 0 1 5 ∷ link 0 2 6 ∷ link 0 2 5 ∷ link 0 1 4 ∷ link 1 2 4 ∷ []))
     ≡ refused 6 0 ∷ refused 6 0 ∷ refused 7 0 ∷ accepted ∷ refused 8 0 ∷ accepted ∷ refused 9 0 ∷ accepted ∷ []
-unfolding insertAnswers
+unfolding stepAnswers
 refusals = refl
 
 -- maximal cliques that share fewer than k - 1 parts are apart: P5 and P10 by the maximal-clique run

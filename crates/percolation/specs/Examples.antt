@@ -7,17 +7,19 @@ use Rattle.answers.specs.Verdict.{Verdict, accepted, refused}
 use Rattle.percolation.specs.Percolate.{Community, shown}
 use Rattle.percolation.specs.Links.{Link, link, listing, slots, family}
 use Rattle.percolation.specs.Levels.{Meeting, met, never, meeting}
-use Rattle.percolation.specs.Steps.{insertAnswers}
+use Rattle.percolation.specs.Steps.{Step, insert, back, remainingLinks, stepAnswers}
 use Rattle.percolation.specs.Tree.{Line, line, tree}
 use Rattle.percolation.specs.Mean.{familyLinks, Mean, mean, meanOf}
 
 -- What is asked of links, a part count and k, and what is expected: the listing at t; the meeting weight of a and b; the slots needed at t;
--- what each link gets when the links are inserted in order with tables of n slots; the merge tree; the mean link weight of the family of c at t.
+-- what each step gets when the links are inserted in order with tables of n slots and the steps X follow, and the links that remain then; the merge tree; the
+-- mean link weight of the family of c at t.
 pub data Asked : Type 0 where
   lists : ℕ → List Community → Asked
   meets : ℕ → ℕ → Meeting → Asked
   needs : ℕ → ℕ → Asked
-  gets : ℕ → List Verdict → Asked
+  gets : ℕ → List Step → List Verdict → Asked
+  leaves : ℕ → List Step → List Link → Asked
   grows : List Line → Asked
   weighs : ℕ → ℕ → Mean → Asked
 
@@ -35,7 +37,8 @@ abbrev pub Says : List Link → ℕ → ℕ → Asked → Type 0
 Says L p k (lists t C) = listing L p k t ≡ C
 Says L p k (meets a b m) = meeting L p k a b ≡ m
 Says L p k (needs t n) = slots p k (family L p k t) ≡ n
-Says L p k (gets n r) = insertAnswers p k n [] L ≡ r
+Says L p k (gets n X r) = stepAnswers p k n [] (map insert L ++ X) ≡ r
+Says L p k (leaves n X M) = remainingLinks p k n [] (map insert L ++ X) ≡ M
 Says L p k (grows X) = tree L p k ≡ X
 Says L p k (weighs t c m) = meanOf (familyLinks L p k t c) ≡ m
 
@@ -75,8 +78,11 @@ table =
     ∷ row sheet5 5 2 (lists 4 (shown 3 31 ∷ []))
     ∷ row sheet8 5 3 (lists 2 (shown 7 31 ∷ []))
     ∷ row sheet8 5 3 (needs 2 7)
-    ∷ row sheet8 5 3 (gets 7 (replicate 7 accepted))
-    ∷ row sheet8 5 3 (gets 6 (replicate 6 accepted ++ (refused 15 0 ∷ [])))
+    ∷ row sheet8 5 3 (gets 7 [] (replicate 7 accepted))
+    ∷ row sheet8 5 3 (gets 6 [] (replicate 6 accepted ++ (refused 15 0 ∷ [])))
+    ∷ row sheet1 4 3 (gets 7 (back ∷ back ∷ insert (link 1 3 7) ∷ insert (link 2 3 8) ∷ []) (replicate 8 accepted ++ (refused 8 0 ∷ [])))
+    ∷ row sheet1 4 3 (leaves 7 (back ∷ back ∷ insert (link 1 3 7) ∷ insert (link 2 3 8) ∷ []) (pairs 9 ((0, 1) ∷ (0, 2) ∷ []) ++ pairs 8 ((1, 2) ∷ []) ++ pairs 7 ((1, 3) ∷ [])))
+    ∷ row [] 4 3 (gets 7 (back ∷ insert (link 0 1 5) ∷ back ∷ back ∷ []) (refused 19 0 ∷ accepted ∷ accepted ∷ refused 19 0 ∷ []))
     ∷ row sheet8 5 3 (grows (line 4 0 3 7 7 ∷ line 4 0 3 28 28 ∷ line 2 2 0 7 31 ∷ []))
     ∷ row sheet9 11 3 (lists 4 (shown 7 2047 ∷ shown 1057 1057 ∷ []))
     ∷ row sheet9 11 3 (weighs 4 7 (mean 76 19 4 0))

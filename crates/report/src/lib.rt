@@ -2,6 +2,7 @@
 // bytes are written; stored outputs do.
 mod heads;
 mod limits;
+mod line_fault;
 mod listing;
 mod means;
 mod names;
@@ -13,11 +14,14 @@ mod tree_rows;
 pub use limits::LINKS;
 pub use limits::NAMES;
 pub use limits::SLOTS;
+pub use line_fault::line_words;
 pub use listing::families;
+pub use listing::families_now;
 pub use means::by_mean;
 pub use means::mean;
 pub use names::find;
 pub use refusal::tell;
+pub use sheet_text::link_words;
 pub use sheet_text::show;
 pub use slot_counts::slots;
 pub use tree_rows::tree;

@@ -1,4 +1,4 @@
-// `listing`: the families of a sheet at a threshold.
+// The families of a listing, of a sheet at a threshold or of the links so far.
 use crate::heads::head;
 use crate::names::names;
 use console::end;
@@ -45,14 +45,15 @@ fn lines(s: &[u8], out: &[u8], n: usize) -> Set {
     seen
 }
 
-// The parts of the sheet that are not among those seen.
-pub fn others(s: &[u8], seen: Set) {
+// The parts of the sheet that are not among those seen. False where standard output takes no more.
+pub fn others(s: &[u8], seen: Set) -> bool {
     let rest = sets::minus(sets::upto(sheet::part_count(s)), seen);
-    if !sets::is_empty(rest) {
-        text(b"in no family:");
-        names(s, rest);
-        end();
+    if sets::is_empty(rest) {
+        return true;
     }
+    text(b"in no family:");
+    names(s, rest);
+    end()
 }
 
 // The first words of a listing.
@@ -61,10 +62,22 @@ pub fn listed(n: usize, k: usize, t: u16) {
     field(b", threshold ", t as usize);
 }
 
-// A listing's n families by number, then the parts in none.
+// Ends the first line, then n families by number and the parts in none.
+fn after_head(s: &[u8], out: &[u8], n: usize) -> bool {
+    if !end() {
+        return false;
+    }
+    others(s, lines(s, out, n))
+}
+
+// A listing's families at a threshold.
 pub fn families(s: &[u8], k: usize, t: u16, out: &[u8], n: usize) {
     listed(n, k, t);
-    if end() {
-        others(s, lines(s, out, n));
-    }
+    after_head(s, out, n);
+}
+
+// The families of the links so far, which have no threshold. False where standard output takes no more.
+pub fn families_now(s: &[u8], k: usize, out: &[u8], n: usize) -> bool {
+    head(n, b"family", b"families", k);
+    after_head(s, out, n)
 }

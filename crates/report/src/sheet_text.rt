@@ -35,12 +35,17 @@ fn part_lines(s: &[u8], p: usize) -> bool {
     true
 }
 
-fn link_line(s: &[u8], low: usize, high: usize, weight: usize) -> bool {
+// A link as it is typed.
+pub fn link_words(s: &[u8], low: usize, high: usize, weight: usize) {
     text(b"link ");
     text(name(s, low));
     text(b" ");
     text(name(s, high));
     field(b" ", weight);
+}
+
+fn link_line(s: &[u8], low: usize, high: usize, weight: usize) -> bool {
+    link_words(s, low, high, weight);
     end()
 }
 

@@ -3,7 +3,6 @@ use mathlib.Core.Path.{_≡_, sym, ap, _∙_, subst}
 use mathlib.Core.Bool.{true}
 use mathlib.Core.List.{List}
 use Prim.Native.Nat.{ℕ, _*_, _≤_, _<_}
-use native.Mathlib.Nat.{mul-le-mul}
 use native.Mathlib.Omega.{arith}
 use lib.ListN.{length, getD, take}
 use lib.Seq.{take-all}
@@ -11,7 +10,7 @@ use Rattle.answers.specs.Verdict.{accepted}
 use Rattle.sets.specs.Value.{width, noRows}
 use Rattle.percolation.specs.Links.{Link}
 use Rattle.percolation.specs.Steps.{legal}
-use Rattle.percolation.proofs.Accepted.{legal-few}
+use Rattle.percolation.proofs.Accepted.{legal-most}
 use Rattle.percolation.proofs.Ranges.{narrow-count}
 use Rattle.sheet.specs.Sheet.{parts, links, linkOf, linksOf, checkSheet}
 use Rattle.sheet.proofs.Sound.{sheet-count, sheet-legal}
@@ -39,7 +38,7 @@ module _ (s : List ℕ) (e : checkSheet s ≡ accepted) where
   parts-width = narrow-count (parts s) (sheet-count s e) .1
 
   pub links-few : links s ≤ width * width
-  links-few = omega (arith, links-length s, legal-few (parts s) (linksOf s) (sheet-legal s e), mul-le-mul parts-width parts-width)
+  links-few = omega (arith, links-length s, legal-most (parts s) (linksOf s) parts-width (sheet-legal s e))
 
   pub link-ends : (j : ℕ) → j < links s → (linkOf s j .low < width) × (linkOf s j .high < width)
   link-ends j h =

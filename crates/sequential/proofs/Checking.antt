@@ -1,12 +1,12 @@
--- The numbers of 11, 12, 6 to 9 and 15, test by test. Assumes nothing.
+-- The numbers of 11, 12, 20, 6 to 9, 15 and 19, test by test. Assumes nothing.
 use mathlib.Core.Path.{_≡_, refl, sym, ap, _∙_}
-use mathlib.Core.Bool.{Bool, true, false, cond, _&&_}
+use mathlib.Core.Bool.{Bool, true, false, cond, not, _&&_}
 use mathlib.Core.List.{List}
 use Prim.Native.Nat.{ℕ, zero, suc, _-_, _≤_, _<_, min}
 use native.Mathlib.Omega.{arith}
 use lib.Dec.{leb}
-use lib.ListN.{getD}
-use borrow.Author.Tests.{leb-true, le-leb, lt-leb}
+use lib.ListN.{length, getD}
+use borrow.Author.Tests.{leb-true, le-leb, lt-leb, eqb-true, eq-eqb, ne-eqb}
 use Rattle.sets.specs.Lists.{all, below}
 use Rattle.sets.specs.Value.{width}
 use Rattle.sets.proofs.Tests.{and-left, and-right, and-stop, and-go}
@@ -21,9 +21,10 @@ use Rattle.slots.proofs.Lengths.{room-within}
 use Rattle.search.specs.Model.{cap, addedBy}
 use Rattle.runs.specs.Lent.{lent, level}
 use Rattle.runs.proofs.Left.{level-used}
+use Rattle.journal.specs.Journal.{journalLength, whole}
 use Rattle.sequential.specs.declared.State.{State}
 use Rattle.sequential.specs.Steps.{goodState}
-use Rattle.sequential.specs.Model.{firstOf, stateNumber, linkStep, insertNumber}
+use Rattle.sequential.specs.Model.{firstOf, stateNumber, linkStep, journalNumber, insertNumber, backNumber}
 
 -- ---- numbers, the first that is not 0
 
@@ -136,22 +137,65 @@ module _ (S : State) (es : List ℕ) (l : Link) where
   step-parts w z =
       let g = good-parts (S .p) l (number-parts (S .p) (S .rows) (S .last) l (first-0 number _ z .0)) in (omega (arith, g .0, g .1, w), omega (arith, g .1, w))
 
--- ---- 11, 12, then the rest
+-- ---- 11, 12, then 20
 
-module _ (S : State) (T : Tables) (l : Link) where
-  pub number-stop : (n : ℕ) → n ≡ stateNumber S T → (n ≡ 0 → ⊥) → n ≡ insertNumber S T l
-  unfolding insertNumber
-  number-stop n e h = e ∙ sym (first-stop (stateNumber S T) _ (λ z. h (e ∙ z)))
+module _ (S : State) (T : Tables) (J : List ℕ) where
+  pub journal-stop : (n : ℕ) → n ≡ stateNumber S T → (n ≡ 0 → ⊥) → n ≡ journalNumber S T J
+  unfolding journalNumber
+  journal-stop n e h = e ∙ sym (first-stop (stateNumber S T) _ (λ z. h (e ∙ z)))
 
-  pub number-go : (n : ℕ) → stateNumber S T ≡ 0 → n ≡ linkStep S (T .entries) l → n ≡ insertNumber S T l
+  module _ (z : stateNumber S T ≡ 0) where
+    pub journal-20 : whole J ≡ false → 20 ≡ journalNumber S T J
+    unfolding journalNumber
+    journal-20 e = sym (first-go (stateNumber S T) _ z ∙ ap (λ (b : Bool). cond b 0 20) e)
+
+    pub journal-0 : whole J ≡ true → 0 ≡ journalNumber S T J
+    unfolding journalNumber
+    journal-0 e = sym (first-go (stateNumber S T) _ z ∙ ap (λ (b : Bool). cond b 0 20) e)
+
+  module _ (z : journalNumber S T J ≡ 0) where
+    pub journal-good : goodState S (T .entries) ≡ true
+    unfolding journalNumber
+    journal-good = state-good S T (first-0 (stateNumber S T) _ z .0)
+
+    pub journal-whole : length J ≡ journalLength
+    unfolding journalNumber
+    journal-whole = eqb-true (length J) journalLength (by (whole J) (first-0 (stateNumber S T) _ z .1))
+      where
+        by : (b : Bool) → _≡_ {A = ℕ} (cond b 0 20) 0 → b ≡ true
+        by true h = refl
+        by false h = let x : ⊥ = omega arith in absurd x
+
+-- ---- then the rest
+
+module _ (S : State) (T : Tables) (J : List ℕ) (l : Link) where
+  pub number-stop : (n : ℕ) → n ≡ journalNumber S T J → (n ≡ 0 → ⊥) → n ≡ insertNumber S T J l
   unfolding insertNumber
-  number-go n z e = e ∙ sym (first-go (stateNumber S T) _ z)
+  number-stop n e h = e ∙ sym (first-stop (journalNumber S T J) _ (λ z. h (e ∙ z)))
+
+  pub number-go : (n : ℕ) → journalNumber S T J ≡ 0 → n ≡ linkStep S (T .entries) l → n ≡ insertNumber S T J l
+  unfolding insertNumber
+  number-go n z e = e ∙ sym (first-go (journalNumber S T J) _ z)
+
+module _ (S : State) (T : Tables) (J : List ℕ) where
+  pub back-stop : (n : ℕ) → n ≡ journalNumber S T J → (n ≡ 0 → ⊥) → n ≡ backNumber S T J
+  unfolding backNumber
+  back-stop n e h = e ∙ sym (first-stop (journalNumber S T J) _ (λ z. h (e ∙ z)))
+
+  module _ (z : journalNumber S T J ≡ 0) where
+    pub back-19 : S .links ≡ 0 → 19 ≡ backNumber S T J
+    unfolding backNumber
+    back-19 e = sym (first-go (journalNumber S T J) _ z ∙ ap (λ (b : Bool). cond (not b) 0 19) (eq-eqb (S .links) 0 e))
+
+    pub back-0 : (S .links ≡ 0 → ⊥) → 0 ≡ backNumber S T J
+    unfolding backNumber
+    back-0 h = sym (first-go (journalNumber S T J) _ z ∙ ap (λ (b : Bool). cond (not b) 0 19) (ne-eqb (S .links) 0 h))
 
 -- an insert with number 0: what the tables and the link then have
-module _ (S : State) (T : Tables) (l : Link) (z : insertNumber S T l ≡ 0) where
+module _ (S : State) (T : Tables) (J : List ℕ) (l : Link) (z : insertNumber S T J l ≡ 0) where
   good : goodState S (T .entries) ≡ true
   unfolding insertNumber
-  good = state-good S T (first-0 (stateNumber S T) _ z .0)
+  good = journal-good S T J (first-0 (journalNumber S T J) _ z .0)
 
   pub insert-two : 2 ≤ S .k
   insert-two = state-two S (T .entries) good
@@ -161,4 +205,19 @@ module _ (S : State) (T : Tables) (l : Link) (z : insertNumber S T l ≡ 0) wher
 
   pub insert-parts : (l .low < width) × (l .high < width)
   unfolding insertNumber
-  insert-parts = step-parts S (T .entries) l (state-wide S (T .entries) good) (first-0 (stateNumber S T) _ z .1)
+  insert-parts = step-parts S (T .entries) l (state-wide S (T .entries) good) (first-0 (journalNumber S T J) _ z .1)
+
+-- a taking back with number 0: what state and journal then have
+module _ (S : State) (T : Tables) (J : List ℕ) (z : backNumber S T J ≡ 0) where
+  fine : journalNumber S T J ≡ 0
+  unfolding backNumber
+  fine = first-0 (journalNumber S T J) _ z .0
+
+  pub back-two : 2 ≤ S .k
+  back-two = state-two S (T .entries) (journal-good S T J fine)
+
+  pub back-wide : S .p ≤ width
+  back-wide = state-wide S (T .entries) (journal-good S T J fine)
+
+  pub back-within : (n : ℕ) → n ≡ min (S .links) journalLength - 1 → n ≤ length J
+  back-within n e = omega (arith, e, journal-whole S T J fine)

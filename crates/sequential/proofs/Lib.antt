@@ -1,3 +1,4 @@
+pub mod Backing
 pub mod Checking
 pub mod Every
 pub mod Inserting

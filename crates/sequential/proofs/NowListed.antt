@@ -27,7 +27,7 @@ module _ (S : State) (T : Tables) (old : List ℕ) (r : Answer) (out : List ℕ)
   unlisted-meets n e bad a o = record {
     checked = λ m b c.
         let f = numbered-refused (stateNumber S T) 0 m b (sym (state-says S T) ∙ c) in a ∙ ap (λ (x : ℕ). refuses x 0) (e ∙ f .0) ∙ ap (refuses m) (f .1 .1);
-    lists = λ p k n L h. absurd (bad (e ∙ held-number p k n L S T h));
+    lists = λ p k n L J h. absurd (bad (e ∙ held-number p k n L S T J h));
     kept = λ m b c. o;
   }
 
@@ -35,9 +35,9 @@ module _ (S : State) (T : Tables) (old : List ℕ) (r : Answer) (out : List ℕ)
   abbrev C : List Community
   C = listed (T .entries) (T .smallest) (T .unions) (S .used)
 
-  ends-are : (p k n : ℕ) (L : List Link) → Holds p k n L S T → C ≡ listing L p k 0
+  ends-are : (p k n : ℕ) (L : List Link) (J : List ℕ) → Holds p k n L S T J → C ≡ listing L p k 0
   unfolding listing family
-  ends-are p k n L h =
+  ends-are p k n L J h =
       ap (listed (T .entries) (T .smallest) (T .unions)) (h .same-used)
       ∙ listed-communities p k (cliques L p k) T (cliques-family L p k) (omega (arith, good-k k (h .size) .0)) (h .shows)
       ∙ ap (λ (M : List Link). communities k (cliques M p k)) (sym (heavy-zero L))
@@ -45,6 +45,6 @@ module _ (S : State) (T : Tables) (old : List ℕ) (r : Answer) (out : List ℕ)
   pub listed-meets : stateNumber S T ≡ 0 → WritesListing C old r out → ListingNowMeets S T old r out
   listed-meets z w = record {
     checked = λ m b c. accepted-not m b (sym c ∙ state-says S T ∙ numbered-0 (stateNumber S T) 0 z);
-    lists = λ p k n L h. subst (λ (D : List Community). WritesListing D old r out) (ends-are p k n L h) w;
+    lists = λ p k n L J h. subst (λ (D : List Community). WritesListing D old r out) (ends-are p k n L J h) w;
     kept = λ m b c. w .bytes ∙ written-refused _ _ old m b (said-refused _ (length C) m b (sym c ∙ w .answer));
   }

@@ -1,4 +1,4 @@
-// The steps of the sequential run: start, insert, and the listing now.
+// The steps of the sequential run: start, insert, taking back, and the listing now.
 ghost use mathlib.Core.Path.{_≡_};
 ghost use Prim.Native.Nat.{_≤_};
 ghost use Rattle.answers.specs.Answers.{refuses, says};
@@ -6,18 +6,20 @@ ghost use Rattle.percolation.specs.Links.{link};
 ghost use Rattle.sets.specs.Value.{noRows};
 ghost use Rattle.slots.specs.Tables.{tables, room};
 ghost use Rattle.runs.specs.Lent.{lent};
-ghost use Rattle.sequential.specs.Steps.{state, goodState, StartMeets, InsertMeets, ListingNowMeets};
-ghost use Rattle.sequential.specs.Model.{stateNumber, linkStep, insertNumber};
+ghost use Rattle.sequential.specs.Steps.{state, goodState, StartMeets, InsertMeets, BackMeets, ListingNowMeets};
+ghost use Rattle.sequential.specs.Model.{stateNumber, linkStep, journalNumber, insertNumber, backNumber};
 use answers::Answer;
 use sets::Rows;
 
-// What goes from step to step beside the tables: p, k, how many slots are used, the last weight (65,535 with no link), and the neighbours of each part.
+// What goes from step to step beside tables and journal: p, k, how many slots are used, the last weight (65,535 with no link), how many links remain, and
+// the neighbours of each part.
 #[repr(C)]
 pub struct State {
     pub p: usize,
     pub k: usize,
     pub used: usize,
     pub last: usize,
+    pub links: usize,
     pub rows: Rows,
 }
 
@@ -29,7 +31,7 @@ pub struct Stepped {
 
 // A refused start: a state of zeros, which 12 refuses.
 fn not_started(n: u8) -> Stepped
-    ensures { λ r. ⌜ (says (r .answer) ≡ refuses n 0) × (r .state ≡ state 0 0 0 0 noRows) ⌝ }
+    ensures { λ r. ⌜ (says (r .answer) ≡ refuses n 0) × (r .state ≡ state 0 0 0 0 0 noRows) ⌝ }
 {
     let rows = sets::no_rows();
     Stepped {
@@ -39,12 +41,23 @@ fn not_started(n: u8) -> Stepped
             k: 0,
             used: 0,
             last: 0,
+            links: 0,
             rows,
         },
     }
 }
 
-// Begins with no links and tables all zero: 4, 10, 11.
+// A refused step: the state as it was.
+fn refused(n: u8, state: State) -> Stepped
+    ensures { λ r. ⌜ (says (r .answer) ≡ refuses n 0) × (r .state ≡ state) ⌝ }
+{
+    Stepped {
+        answer: Answer::Refused(n, 0),
+        state,
+    }
+}
+
+// Begins with no links, tables and journal all zero: 4, 10, 11, 20.
 pub fn start(
     p: usize,
     k: usize,
@@ -52,8 +65,9 @@ pub fn start(
     entries: &mut [u32],
     smallest: &mut [u64],
     unions: &mut [u64],
+    journal: &mut [u64],
 ) -> Stepped
-    ensures { λ r. ⌜ StartMeets p k (lent (now (sets .entry)) (now (entries .entry)) (now (smallest .entry)) (now (unions .entry))) r (lent (now (sets .exit)) (now (entries .exit)) (now (smallest .exit)) (now (unions .exit))) ⌝ }
+    ensures { λ r. ⌜ StartMeets p k (lent (now (sets .entry)) (now (entries .entry)) (now (smallest .entry)) (now (unions .entry))) (now (journal .entry)) r (lent (now (sets .exit)) (now (entries .exit)) (now (smallest .exit)) (now (unions .exit))) (now (journal .exit)) ⌝ }
 {
     if !checks::good_count(p) {
         return not_started(4);
@@ -64,7 +78,11 @@ pub fn start(
     if !runs::level(sets, entries, smallest, unions) {
         return not_started(11);
     }
+    if !journal::whole(journal) {
+        return not_started(20);
+    }
     runs::clear(sets, entries, smallest, unions);
+    sets::clear(journal);
     let rows = sets::no_rows();
     Stepped {
         answer: Answer::Count(0),
@@ -73,6 +91,7 @@ pub fn start(
             k,
             used: 0,
             last: 65535,
+            links: 0,
             rows,
         },
     }
@@ -124,45 +143,75 @@ fn link_step(state: State, entries: &[u32], low: usize, high: usize, weight: u16
     0
 }
 
-// The first of 11, 12, 6 to 9 and 15 that applies to an insert, or 0.
+// The first of 11, 12 and 20 that applies to a state, its tables and its journal, or 0.
+fn journal_number(
+    state: State,
+    sets: &[u64],
+    entries: &[u32],
+    smallest: &[u64],
+    unions: &[u64],
+    journal: &[u64],
+) -> u8
+    ensures { λ r. ⌜ r ≡ journalNumber state (tables (now (sets .entry)) (now (entries .entry)) (now (smallest .entry)) (now (unions .entry)) (state .used)) (now (journal .entry)) ⌝ }
+{
+    let n = state_number(state, sets, entries, smallest, unions);
+    if n != 0 {
+        return n;
+    }
+    if !journal::whole(journal) {
+        return 20;
+    }
+    0
+}
+
+// The first of 11, 12, 20, 6 to 9 and 15 that applies to an insert, or 0.
 fn insert_number(
     state: State,
     sets: &[u64],
     entries: &[u32],
     smallest: &[u64],
     unions: &[u64],
+    journal: &[u64],
     low: usize,
     high: usize,
     weight: u16,
 ) -> u8
-    ensures { λ r. ⌜ r ≡ insertNumber state (tables (now (sets .entry)) (now (entries .entry)) (now (smallest .entry)) (now (unions .entry)) (state .used)) (link low high weight) ⌝ }
+    ensures { λ r. ⌜ r ≡ insertNumber state (tables (now (sets .entry)) (now (entries .entry)) (now (smallest .entry)) (now (unions .entry)) (state .used)) (now (journal .entry)) (link low high weight) ⌝ }
 {
-    let n = state_number(state, sets, entries, smallest, unions);
+    let n = journal_number(state, sets, entries, smallest, unions, journal);
     if n != 0 {
         return n;
     }
     link_step(state, entries, low, high, weight)
 }
 
-// One link more: 11, 12, 6 to 9, 15. A refused insert leaves state and tables as they were.
+// One link more: 11, 12, 20, 6 to 9, 15. A refused insert leaves state, tables and journal as they were.
 pub fn insert(
     state: State,
     sets: &mut [u64],
     entries: &mut [u32],
     smallest: &mut [u64],
     unions: &mut [u64],
+    journal: &mut [u64],
     low: usize,
     high: usize,
     weight: u16,
 ) -> Stepped
-    ensures { λ r. ⌜ InsertMeets state (tables (now (sets .entry)) (now (entries .entry)) (now (smallest .entry)) (now (unions .entry)) (state .used)) (link low high weight) r (tables (now (sets .exit)) (now (entries .exit)) (now (smallest .exit)) (now (unions .exit)) (r .state .used)) ⌝ }
+    ensures { λ r. ⌜ InsertMeets state (tables (now (sets .entry)) (now (entries .entry)) (now (smallest .entry)) (now (unions .entry)) (state .used)) (now (journal .entry)) (link low high weight) r (tables (now (sets .exit)) (now (entries .exit)) (now (smallest .exit)) (now (unions .exit)) (r .state .used)) (now (journal .exit)) ⌝ }
 {
-    let n = insert_number(state, sets, entries, smallest, unions, low, high, weight);
+    let n = insert_number(
+        state,
+        sets,
+        entries,
+        smallest,
+        unions,
+        journal,
+        low,
+        high,
+        weight,
+    );
     if n != 0 {
-        return Stepped {
-            answer: Answer::Refused(n, 0),
-            state,
-        };
+        return refused(n, state);
     }
     let mut rows = state.rows;
     let used = runs::take_link(
@@ -176,6 +225,7 @@ pub fn insert(
         low,
         high,
     );
+    let links = journal::add(journal, state.links, low, high, weight);
     Stepped {
         answer: Answer::Count(0),
         state: State {
@@ -183,12 +233,81 @@ pub fn insert(
             k: state.k,
             used,
             last: weight as usize,
+            links,
             rows,
         },
     }
 }
 
-// The listing of the links so far: 11, 12, 16. It writes no table.
+// The first of 11, 12, 20 and 19 that applies to a taking back, or 0.
+fn back_number(
+    state: State,
+    sets: &[u64],
+    entries: &[u32],
+    smallest: &[u64],
+    unions: &[u64],
+    journal: &[u64],
+) -> u8
+    ensures { λ r. ⌜ r ≡ backNumber state (tables (now (sets .entry)) (now (entries .entry)) (now (smallest .entry)) (now (unions .entry)) (state .used)) (now (journal .entry)) ⌝ }
+{
+    let n = journal_number(state, sets, entries, smallest, unions, journal);
+    if n != 0 {
+        return n;
+    }
+    if state.links == 0 {
+        return 19;
+    }
+    0
+}
+
+// The last link taken back: 11, 12, 20, 19. The tables are made again from the journal where the link made a k-clique. A refused one leaves state, tables and
+// journal as they were.
+pub fn take_back(
+    state: State,
+    sets: &mut [u64],
+    entries: &mut [u32],
+    smallest: &mut [u64],
+    unions: &mut [u64],
+    journal: &mut [u64],
+) -> Stepped
+    ensures { λ r. ⌜ BackMeets state (tables (now (sets .entry)) (now (entries .entry)) (now (smallest .entry)) (now (unions .entry)) (state .used)) (now (journal .entry)) r (tables (now (sets .exit)) (now (entries .exit)) (now (smallest .exit)) (now (unions .exit)) (r .state .used)) (now (journal .exit)) ⌝ }
+{
+    let n = back_number(state, sets, entries, smallest, unions, journal);
+    if n != 0 {
+        return refused(n, state);
+    }
+    let p = state.p;
+    let k = state.k;
+    let links = journal::one_less(state.links);
+    let last = journal::last_weight(journal, links);
+    let rows = journal::rows_of(journal, links, p);
+    let used = journal::refill(
+        journal,
+        links,
+        p,
+        k,
+        state.used,
+        &rows,
+        sets,
+        entries,
+        smallest,
+        unions,
+    );
+    journal::put(journal, links, 0);
+    Stepped {
+        answer: Answer::Count(0),
+        state: State {
+            p,
+            k,
+            used,
+            last,
+            links,
+            rows,
+        },
+    }
+}
+
+// The listing of the links that remain: 11, 12, 16. It writes no table.
 pub fn listing_now(
     state: State,
     sets: &[u64],

@@ -1,7 +1,7 @@
-// Runs start, insert, the listing now and the listing of a sheet as the script in the file stdin says, on document 01's small sheets and with refusals in
-// between, and prints what they answer: held to the file stdout. A line's numbers are the slots of the tables, those of the last table and k, then
-// the threshold and the bytes of the output, or the part count, the bytes of the output and where the links stand among the bytes; of a line with tables
-// that are not the state's, an entry, what it is set to, and the slots of each table.
+// Runs start, insert, taking back, the listing now and the listing of a sheet as the script in the file stdin says, on document 01's small sheets and with
+// refusals in between, and prints what they answer: held to the file stdout. A line's numbers are the slots of the tables, those of the last table and k, then
+// the threshold and the bytes of the output, or the part count, the bytes of the output and where the links stand among the bytes, a link from part 255 for
+// a taking back; of a line with tables that are not the state's, an entry, what it is set to, the slots of each table, and the entries of the journal.
 use answers::Answer;
 use console::field;
 use console::text;
@@ -9,154 +9,15 @@ use libc::STDIN_FILENO;
 use runs::Method;
 use sequential::State;
 
-// ---- the steps
-
-// Whether a step was accepted.
-fn accepted(a: Answer) -> bool {
-    match a {
-        Answer::Count(_) => {
-            text(b": accepted");
-            true
-        }
-        Answer::Refused(n, place) => {
-            text(b": ");
-            trial::refused(n, place);
-            false
-        }
-    }
-}
-
-fn begin(
-    p: usize,
-    k: usize,
-    sets: &mut [u64],
-    entries: &mut [u32],
-    smallest: &mut [u64],
-    unions: &mut [u64],
-) -> State {
-    field(b"start p ", p);
-    field(b" k ", k);
-    let r = sequential::start(p, k, sets, entries, smallest, unions);
-    let a = r.answer;
-    accepted(a);
-    trial::left(sets, entries, smallest, unions);
-    r.state
-}
-
-// The row of an insert. What the tables hold after an accepted one is open.
-fn inserted(
-    a: Answer,
-    before: &[u64; 4000],
-    sets: &[u64],
-    entries: &[u32],
-    smallest: &[u64],
-    unions: &[u64],
-) {
-    if accepted(a) {
-        text(b"\n");
-        return;
-    }
-    let after = trial::copied(0, sets, entries, smallest, unions);
-    if trial::same(before, &after) {
-        text(b", tables as before\n");
-        return;
-    }
-    text(b", tables written\n");
-}
-
-fn step(
-    state: State,
-    sets: &mut [u64],
-    entries: &mut [u32],
-    smallest: &mut [u64],
-    unions: &mut [u64],
-    low: usize,
-    high: usize,
-    weight: u16,
-) -> State {
-    let before = trial::copied(0, sets, entries, smallest, unions);
-    let r = sequential::insert(state, sets, entries, smallest, unions, low, high, weight);
-    let a = r.answer;
-    inserted(a, &before, sets, entries, smallest, unions);
-    r.state
-}
-
-fn wide(b: u8) -> usize {
-    b as usize
-}
-
-fn weight(high: u8, low: u8) -> u16 {
-    (high as u16) * 256 + (low as u16)
-}
-
-fn link(low: usize, high: usize, weight: u16) {
-    field(b"", low);
-    field(b"-", high);
-    field(b" of ", weight as usize);
-}
-
-// Inserts links of four bytes, as in a sheet.
-fn inserts(
-    start: State,
-    links: &[u8],
-    sets: &mut [u64],
-    entries: &mut [u32],
-    smallest: &mut [u64],
-    unions: &mut [u64],
-) -> State {
-    let mut state = start;
-    let mut i = 0;
-    while 4 <= links.len() - i {
-        let w = weight(links[i + 2], links[i + 3]);
-        let low = wide(links[i]);
-        let high = wide(links[i + 1]);
-        link(low, high, w);
-        state = step(state, sets, entries, smallest, unions, low, high, w);
-        i += 4;
-    }
-    state
-}
-
-fn now(
-    state: State,
-    sets: &[u64],
-    entries: &[u32],
-    smallest: &[u64],
-    unions: &[u64],
-    out: &mut [u8],
-) {
-    text(b"listing now: ");
-    let a = sequential::listing_now(state, sets, entries, smallest, unions, out);
-    trial::listed(a, out);
-    text(b"\n");
-}
-
-// A start, inserts and the listing now. Gives back the last state.
-fn steps(
-    p: usize,
-    k: usize,
-    links: &[u8],
-    sets: &mut [u64],
-    entries: &mut [u32],
-    smallest: &mut [u64],
-    unions: &mut [u64],
-    out: &mut [u8],
-) -> State {
-    let s = begin(p, k, sets, entries, smallest, unions);
-    let u = inserts(s, links, sets, entries, smallest, unions);
-    now(u, sets, entries, smallest, unions, out);
-    u
-}
-
 // ---- a state with tables that are not its own
 
-// A refusal by 11 or 12; otherwise only that the call ended, since its answer is free.
+// A refusal by 11, 12 or 20; otherwise only that the call ended, since its answer is free.
 fn ended(call: &[u8], a: Answer) {
     text(call);
     match a {
         Answer::Count(_) => text(b"ended"),
         Answer::Refused(n, place) => {
-            if n == 11 || n == 12 {
+            if n == 11 || n == 12 || n == 20 {
                 trial::refused(n, place);
             } else {
                 text(b"ended");
@@ -165,45 +26,56 @@ fn ended(call: &[u8], a: Answer) {
     }
 }
 
-fn both(
+// A step, or with part 254 the listing now.
+fn called(
     state: State,
+    low: usize,
     sets: &mut [u64],
     entries: &mut [u32],
     smallest: &mut [u64],
     unions: &mut [u64],
-) {
-    let r = sequential::insert(state, sets, entries, smallest, unions, 1, 3, 2);
-    let a = r.answer;
-    ended(b": insert ", a);
-    let mut out = [b'.'; 40];
-    let now = r.state;
-    ended(
-        b", listing now ",
-        sequential::listing_now(now, sets, entries, smallest, unions, &mut out),
-    );
-    text(b"\n");
+    journal: &mut [u64],
+) -> Answer {
+    if low == 254 {
+        let mut out = [b'.'; 40];
+        return sequential::listing_now(state, sets, entries, smallest, unions, &mut out);
+    }
+    let r = step_rows::stepped(state, sets, entries, smallest, unions, journal, low, 3, 2);
+    r.answer
 }
 
-// The state with tables that no steps have left.
-fn other_tables(n: &[usize; 8], state: State) {
+// The same with tables that no steps have left.
+fn other_tables(n: &[usize; 8], state: State, low: usize) -> Answer {
     let i = trial::most(n[1], 7);
     let e = trial::small(n[2]) as u32;
     let a = trial::most(n[3], 8);
     let b = trial::most(n[4], 8);
     let c = trial::most(n[5], 8);
     let d = trial::most(n[6], 8);
+    let j = trial::most(n[7], 2017);
     let mut sets: [u64; 8] = [0, 3, 3, 18446744073709551615, 5, 9, 17, 6];
     let mut entries: [u32; 8] = [0, 0, 2, 1, 3, 5, 2, 0];
     let mut smallest: [u64; 8] = [7, 0, 1, 1, 9223372036854775808, 0, 28, 5];
     let mut unions: [u64; 8] = [0, 18446744073709551615, 2, 7, 7, 4, 28, 1];
+    let mut journal = [7u64; 2017];
     entries[i] = e;
-    both(
+    called(
         state,
+        low,
         &mut sets[0..a],
         &mut entries[0..b],
         &mut smallest[0..c],
         &mut unions[0..d],
-    );
+        &mut journal[0..j],
+    )
+}
+
+// Each call on such tables.
+fn each_call(n: &[usize; 8], state: State) {
+    ended(b": insert ", other_tables(n, state, 1));
+    ended(b", taking back ", other_tables(n, state, 255));
+    ended(b", listing now ", other_tables(n, state, 254));
+    text(b"\n");
 }
 
 // ---- the script
@@ -234,7 +106,7 @@ fn answer(
     out: &mut [u8],
 ) -> State {
     if call != b'l' {
-        return steps(p, k, links, sets, entries, smallest, unions, out);
+        return step_rows::steps(p, k, links, sets, entries, smallest, unions, out);
     }
     let l = sheet_listing::listing(
         Method::Sequential,
@@ -284,7 +156,7 @@ fn row(line: &[u8], spelled: &[u8], state: State) -> State {
     let call = trial::call(line);
     let n = trial::numbers(line);
     if call == b't' {
-        other_tables(&n, state);
+        each_call(&n, state);
         return state;
     }
     asked(call, &n);
@@ -304,6 +176,7 @@ fn run(script: &[u8]) {
         k: 0,
         used: 0,
         last: 0,
+        links: 0,
         rows,
     };
     let mut next = trial::next_row(script, 0, 0);

@@ -3,14 +3,13 @@ use mathlib.Core.Path.{_≡_}
 use mathlib.Core.Bool.{true}
 use Prim.Native.Nat.{_%_, _≤_}
 use native.Mathlib.Omega.{arith}
-use native.Mathlib.Nat.{mul-le-mul}
 use lib.ListN.{length}
 use Rattle.answers.specs.Verdict.{Verdict, accepted, _then_, unless, inOrder}
 use Rattle.answers.proofs.Laws.{then-left, then-right, then-both, unless-passed, last-go}
 use Rattle.percolation.specs.Ranges.{narrowCount}
 use Rattle.percolation.specs.Steps.{legal}
 use Rattle.percolation.proofs.Ranges.{narrow-count}
-use Rattle.percolation.proofs.Accepted.{legal-few}
+use Rattle.percolation.proofs.Accepted.{legal-most}
 use Rattle.part_names.specs.Names.{checkNames}
 use Rattle.sheet.specs.Sheet.{listOf}
 use Rattle.sheet.specs.Network.{Network}
@@ -56,9 +55,9 @@ pub network-few : (n : Network) → checkNetwork n ≡ accepted
 network-few n e =
     let h = shape-parts n (network-shape n e) in
     let c = narrow-count (partsOf n) (network-count n e) in
-    let few = legal-few (partsOf n) (listOf (linkIn n) (linksIn n)) (network-legal n e) in
+    let few = legal-most (partsOf n) (listOf (linkIn n) (linksIn n)) (c .1) (network-legal n e) in
     let size = listOf-length (linkIn n) (linksIn n) in
-    (shape-most n (network-shape n e) (network-count n e), omega (arith, mul-le-mul (c .1) (c .1)), h .1, h .2, h .0)
+    (shape-most n (network-shape n e) (network-count n e), omega (arith, few, size), h .1, h .2, h .0)
 
 -- and the other way
 pub network-passes : (n : Network) → hasShape n ≡ true → narrowCount (partsOf n) ≡ true → checkNames (eightIn n) (λ q. 0) (partsOf n) ≡ accepted

@@ -181,7 +181,7 @@ fn digit(b: u8) -> usize
 }
 
 // A weight's value; 65,536 where the word is not all digits or its value is more than a weight can be.
-fn weight_of(word: &[u8]) -> usize
+pub fn weight_of(word: &[u8]) -> usize
     ensures { λ r. ⌜ (r ≤ 65536) × (r ≡ cond (isWeight (now (word .entry))) (value (now (word .entry))) 65536) ⌝ }
 {
     let mut value = 0;

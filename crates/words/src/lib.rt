@@ -97,7 +97,7 @@ fn next_word(line: &[u8], at: usize) -> usize
     skip_blanks(line, end)
 }
 
-fn count_words(line: &[u8]) -> usize
+pub fn count_words(line: &[u8]) -> usize
     ensures { λ r. ⌜ r ≡ length (words (now (line .entry))) ⌝ }
 {
     let mut at = skip_blanks(line, 0);

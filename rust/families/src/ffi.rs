@@ -16,8 +16,9 @@ pub struct Outcome {
     pub parts: usize,
 }
 
-/// The state of the sequential run. It belongs to the tables that the same
-/// step left; any other state is safe to pass, but its answer means nothing.
+/// The state of the sequential run. It belongs to the tables and the journal
+/// that the same step left; any other state is safe to pass, but its answer
+/// means nothing.
 #[repr(C)]
 #[derive(Clone, Copy, Debug, PartialEq, Eq)]
 pub struct State {
@@ -25,6 +26,7 @@ pub struct State {
     pub k: usize,
     pub used: usize,
     pub last: usize,
+    pub links: usize,
     pub rows: [u64; PARTS],
 }
 
@@ -50,7 +52,7 @@ pub struct Mean {
 // A field more or less on one side would shift every argument after it.
 #[cfg(target_pointer_width = "64")]
 const _: () = {
-    assert!(size_of::<Outcome>() == 32 && size_of::<State>() == 544 && size_of::<Started>() == 576);
+    assert!(size_of::<Outcome>() == 32 && size_of::<State>() == 552 && size_of::<Started>() == 584);
     assert!(size_of::<Mean>() == 56);
 };
 
@@ -105,6 +107,8 @@ extern "C" {
         smallest_length: usize,
         unions: *mut u64,
         unions_length: usize,
+        journal: *mut u64,
+        journal_length: usize,
     ) -> Started;
 
     pub fn families_insert(
@@ -117,9 +121,25 @@ extern "C" {
         smallest_length: usize,
         unions: *mut u64,
         unions_length: usize,
+        journal: *mut u64,
+        journal_length: usize,
         lower: usize,
         higher: usize,
         weight: u16,
+    ) -> Started;
+
+    pub fn families_take_back(
+        state: State,
+        sets: *mut u64,
+        sets_length: usize,
+        entries: *mut u32,
+        entries_length: usize,
+        smallest: *mut u64,
+        smallest_length: usize,
+        unions: *mut u64,
+        unions_length: usize,
+        journal: *mut u64,
+        journal_length: usize,
     ) -> Started;
 
     pub fn families_listing_now(

@@ -99,8 +99,9 @@ pub fn subset_count(n: usize, r: usize) -> Outcome {
     unsafe { ffi::families_subset_count(n, r) }
 }
 
-/// Starts a sequential run; a refused start gives a state of zeros.
-pub fn start(p: usize, k: usize, tables: TablesMut) -> Started {
+/// Starts a sequential run; a refused start gives a state of zeros and
+/// leaves tables and journal.
+pub fn start(p: usize, k: usize, tables: TablesMut, journal: &mut [u64]) -> Started {
     unsafe {
         ffi::families_start(
             p,
@@ -113,14 +114,18 @@ pub fn start(p: usize, k: usize, tables: TablesMut) -> Started {
             tables.smallest.len(),
             tables.unions.as_mut_ptr(),
             tables.unions.len(),
+            journal.as_mut_ptr(),
+            journal.len(),
         )
     }
 }
 
-/// Adds a link. A refused insert gives back its state and leaves the tables.
+/// Adds a link. A refused insert gives back its state and leaves tables and
+/// journal.
 pub fn insert(
     state: State,
     tables: TablesMut,
+    journal: &mut [u64],
     lower: usize,
     higher: usize,
     weight: u16,
@@ -136,6 +141,8 @@ pub fn insert(
             tables.smallest.len(),
             tables.unions.as_mut_ptr(),
             tables.unions.len(),
+            journal.as_mut_ptr(),
+            journal.len(),
             lower,
             higher,
             weight,
@@ -143,7 +150,27 @@ pub fn insert(
     }
 }
 
-/// The listing of the links so far; `count` is the number of communities.
+/// Takes the last link back. A refused taking back gives back its state and
+/// leaves tables and journal.
+pub fn take_back(state: State, tables: TablesMut, journal: &mut [u64]) -> Started {
+    unsafe {
+        ffi::families_take_back(
+            state,
+            tables.sets.as_mut_ptr(),
+            tables.sets.len(),
+            tables.entries.as_mut_ptr(),
+            tables.entries.len(),
+            tables.smallest.as_mut_ptr(),
+            tables.smallest.len(),
+            tables.unions.as_mut_ptr(),
+            tables.unions.len(),
+            journal.as_mut_ptr(),
+            journal.len(),
+        )
+    }
+}
+
+/// The listing of the links that remain; `count` is the number of communities.
 pub fn listing_now(state: State, tables: TablesRef, out: &mut [u8]) -> Outcome {
     unsafe {
         ffi::families_listing_now(

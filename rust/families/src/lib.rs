@@ -21,7 +21,7 @@ pub use lent::Run;
 pub use refused::Refused;
 pub use sequential::Sequential;
 pub use sheet::{from_dump, name, read, write, Network};
-pub use tables::{Space, Tables, TablesMut, TablesRef, MOST_SLOTS};
+pub use tables::{Space, Tables, TablesMut, TablesRef, JOURNAL_ENTRIES, MOST_SLOTS};
 
 /// The most slots that the sequential run can need for p parts: C(p, k-1),
 /// or none where p is below k.

@@ -11,7 +11,7 @@ pub struct Refused {
     pub place: usize,
 }
 
-const SENTENCES: [&str; 18] = [
+const SENTENCES: [&str; 20] = [
     "mark: under 3 bytes or not PLS",
     "version: under 5 bytes or not 1",
     "length: under 8 bytes or not 8 + 8p + 4m; \
@@ -33,6 +33,8 @@ const SENTENCES: [&str; 18] = [
     "an output is shorter than its part of the answer",
     "a dump's mark is not PRD, its version not 1, or its length not 8 + 8p + 8n",
     "a dump's row has a part not below p",
+    "a state with no link to take back",
+    "a journal of other than 2,016 entries",
 ];
 
 impl Refused {

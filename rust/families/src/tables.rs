@@ -1,9 +1,13 @@
-//! The four tables that the runs work in.
+//! The four tables that the runs work in, and the length of a journal.
 
 use crate::lent::{self, Run};
 
 /// No run uses more slots than this: it refuses instead.
 pub const MOST_SLOTS: usize = 16_777_216;
+
+/// A journal has an entry for each possible link: any other length is
+/// refused (20).
+pub const JOURNAL_ENTRIES: usize = 2_016;
 
 /// How many slots to make room for.
 #[derive(Clone, Copy, Debug, PartialEq, Eq)]

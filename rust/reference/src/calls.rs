@@ -65,7 +65,7 @@ pub struct Expected {
 }
 
 impl Expected {
-    fn refused(refusal: Refusal, tables: Left) -> Expected {
+    pub fn refused(refusal: Refusal, tables: Left) -> Expected {
         Expected {
             outcome: refusal.into(),
             output: Vec::new(),
@@ -73,15 +73,19 @@ impl Expected {
         }
     }
 
+    pub fn answered(count: usize, output: Vec<u8>, tables: Left) -> Expected {
+        Expected {
+            outcome: Outcome::count(count),
+            output,
+            tables,
+        }
+    }
+
     /// An answer of so many bytes, refused where the output is shorter.
-    fn written(count: usize, bytes: Vec<u8>, out: usize, tables: Left) -> Expected {
+    pub(crate) fn written(count: usize, bytes: Vec<u8>, out: usize, tables: Left) -> Expected {
         match demand(bytes.len() <= out, 16, 0) {
             Err(refusal) => Expected::refused(refusal, tables),
-            Ok(()) => Expected {
-                outcome: Outcome::count(count),
-                output: bytes,
-                tables,
-            },
+            Ok(()) => Expected::answered(count, bytes, tables),
         }
     }
 }

@@ -6,7 +6,7 @@
 //!   for small part counts.
 //! - [`fast`]: bit sets and hashing, for up to 64 parts.
 //! - [`calls`], [`sheets`], [`steps`]: every check in its order, and so the
-//!   expected answer, output and tables of every call.
+//!   expected answer, output, tables and journal of every call.
 //! - [`dumps`]: the sheet of a sensor dump.
 //! - [`published`]: published networks with their expected families.
 

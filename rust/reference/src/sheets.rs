@@ -27,7 +27,7 @@ pub fn good_name(name: &[u8]) -> bool {
     signs > 0 && name[signs..].iter().all(|&b| b == 32)
 }
 
-/// Links accepted so far, against which the next is checked by 6 to 9.
+/// Links before the next, which is checked against them by 6 to 9.
 #[derive(Clone, Debug)]
 pub struct LinksSoFar {
     p: usize,
@@ -44,13 +44,11 @@ impl LinksSoFar {
         }
     }
 
-    pub fn links(&self) -> &[Link] {
-        &self.links
-    }
-
-    /// Each part's neighbours.
-    pub fn rows(&self) -> &[u64; 64] {
-        &self.rows
+    /// These links, each of which passed.
+    pub fn of(p: usize, links: &[Link]) -> LinksSoFar {
+        let mut so_far = LinksSoFar::new(p);
+        links.iter().for_each(|&link| so_far.add(link));
+        so_far
     }
 
     /// The link as one that may follow, or the first of 6 to 9 that applies.

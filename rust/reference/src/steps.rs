@@ -1,21 +1,46 @@
-//! The sequential run's steps: what a start, each insert of a list and the
-//! listing now must answer, and what must stand in the tables.
+//! The sequential run's steps: what a start, each insert and taking back of a
+//! list and the listing now must answer, and what must stand in state, tables
+//! and journal afterwards. All of it is made anew after each step, from the
+//! links that remain.
 
 use std::collections::HashSet;
 
-use crate::calls::{good_k, level, Expected, Left, Outcome, MOST_SLOTS};
-use crate::fast::{each_clique, parts, Classes};
+use crate::calls::{good_k, level, Expected, Left, MOST_SLOTS};
+use crate::fast::{self, Classes, Rows};
 use crate::network::{listing_bytes, Community, Link};
 use crate::sheets::{demand, good_part_count, LinksSoFar, Refusal};
 
-/// The four tables as a step left them, and the used slots its state gives.
+/// A journal has an entry for each pair of 64 parts.
+pub const JOURNAL_ENTRIES: usize = 64 * 63 / 2;
+
+/// A step of a list.
+#[derive(Clone, Copy, Debug, PartialEq, Eq)]
+pub enum Step {
+    /// Lower part, higher part, weight.
+    Insert(usize, usize, u16),
+    TakeBack,
+}
+
+impl From<Link> for Step {
+    fn from(link: Link) -> Step {
+        Step::Insert(link.lower.into(), link.higher.into(), link.weight)
+    }
+}
+
+/// State, tables and journal as a step left them.
 #[derive(Clone, Copy, Debug)]
 pub struct Shown<'a> {
+    pub p: usize,
+    pub k: usize,
     pub used: usize,
+    pub last: usize,
+    pub links: usize,
+    pub rows: &'a Rows,
     pub sets: &'a [u64],
     pub entries: &'a [u32],
     pub smallest: &'a [u64],
     pub unions: &'a [u64],
+    pub journal: &'a [u64],
 }
 
 impl Shown<'_> {
@@ -29,112 +54,148 @@ impl Shown<'_> {
     }
 }
 
-/// Checks 4, 10 and 11 of a start.
-pub fn check_start(p: usize, k: usize, lengths: [usize; 4]) -> Result<(), Refusal> {
+/// Checks 4, 10, 11 and 20 of a start.
+pub fn check_start(p: usize, k: usize, lengths: [usize; 4], journal: usize) -> Result<(), Refusal> {
     demand(good_part_count(p), 4, 0)?;
     demand(good_k(k), 10, 0)?;
-    demand(level(lengths), 11, 0)
+    demand(level(lengths), 11, 0)?;
+    demand(journal == JOURNAL_ENTRIES, 20, 0)
 }
 
-/// Checks 11 and 12, which come first in insert and listing now.
-pub fn check_state(p: usize, k: usize, shown: Shown) -> Result<(), Refusal> {
+/// Checks 11 and 12, which come first after a start.
+pub fn check_state(shown: Shown) -> Result<(), Refusal> {
     demand(level(shown.lengths()), 11, 0)?;
     let most = shown.sets.len().min(MOST_SLOTS);
-    let in_range = good_k(k) && good_part_count(p) && shown.used <= most;
+    let in_range = good_k(shown.k) && good_part_count(shown.p) && shown.used <= most;
     demand(in_range, 12, 0)?;
     let mut used = shown.entries[..shown.used].iter().enumerate();
     demand(used.all(|(slot, &entry)| entry as usize <= slot), 12, 0)
 }
 
-/// A list of inserts from an accepted start: the accepted links, which
-/// follow from p, k, the tables' length and the inserts' arguments alone.
+/// What a step checks whatever list its state, tables and journal come from:
+/// 11, 12 and 20, and 19 where a link is to be taken back.
+pub fn check_step(shown: Shown, step: Step) -> Result<(), Refusal> {
+    check_state(shown)?;
+    demand(shown.journal.len() == JOURNAL_ENTRIES, 20, 0)?;
+    demand(step != Step::TakeBack || shown.links > 0, 19, 0)
+}
+
+/// A list of inserts and takings back from an accepted start: the links that
+/// remain, which follow from p, k, the tables' length and the steps alone.
 #[derive(Clone, Debug)]
 pub struct Steps {
+    p: usize,
     k: usize,
     slots: usize,
-    accepted: LinksSoFar,
+    links: Vec<Link>,
     classes: Classes,
 }
 
 impl Steps {
-    pub fn start(p: usize, k: usize, lengths: [usize; 4]) -> Result<Steps, Refusal> {
-        check_start(p, k, lengths)?;
+    pub fn start(
+        p: usize,
+        k: usize,
+        lengths: [usize; 4],
+        journal: usize,
+    ) -> Result<Steps, Refusal> {
+        check_start(p, k, lengths, journal)?;
         Ok(Steps {
+            p,
             k,
             slots: lengths[0].min(MOST_SLOTS),
-            accepted: LinksSoFar::new(p),
+            links: Vec::new(),
             classes: Classes::default(),
         })
     }
 
-    pub fn links(&self) -> &[Link] {
-        self.accepted.links()
+    pub fn step(&mut self, step: Step) -> Result<(), Refusal> {
+        match step {
+            Step::Insert(lower, higher, weight) => self.insert(lower, higher, weight),
+            Step::TakeBack => self.take_back(),
+        }
     }
 
-    /// The slots that the accepted links need.
+    /// Tries a link by 6 to 9 against those that remain, then by 15 together
+    /// with them.
+    fn insert(&mut self, lower: usize, higher: usize, weight: u16) -> Result<(), Refusal> {
+        let link = LinksSoFar::of(self.p, &self.links)
+            .check(lower, higher, weight)
+            .map_err(|number| Refusal { number, place: 0 })?;
+        let mut links = self.links.clone();
+        links.push(link);
+        let classes = fast::classes(&links, self.p, self.k, 0);
+        demand(classes.slot_count() <= self.slots, 15, 0)?;
+        (self.links, self.classes) = (links, classes);
+        Ok(())
+    }
+
+    /// Takes the last link away; with none it is refused by 19.
+    fn take_back(&mut self) -> Result<(), Refusal> {
+        demand(self.links.pop().is_some(), 19, 0)?;
+        self.classes = fast::classes(&self.links, self.p, self.k, 0);
+        Ok(())
+    }
+
+    pub fn links(&self) -> &[Link] {
+        &self.links
+    }
+
+    /// The slots that the links that remain need.
     pub fn used(&self) -> usize {
         self.classes.slot_count()
+    }
+
+    /// The weight of the last link; with none any weight may follow.
+    pub fn last_weight(&self) -> u16 {
+        self.links.last().map_or(65_535, |link| link.weight)
+    }
+
+    /// The links that remain in order, then zeros.
+    pub fn journal(&self) -> Vec<u64> {
+        let mut journal = vec![0; JOURNAL_ENTRIES];
+        for (entry, link) in journal.iter_mut().zip(&self.links) {
+            let [lower, higher] = [link.lower, link.higher].map(u64::from);
+            *entry = lower * (1 << 32) + higher * (1 << 16) + u64::from(link.weight);
+        }
+        journal
     }
 
     pub fn listing(&self) -> Vec<Community> {
         self.classes.listing()
     }
 
-    /// Tries a link by 6 to 9 against the accepted ones, then by 15.
-    pub fn insert(&mut self, lower: usize, higher: usize, weight: u16) -> Result<(), Refusal> {
-        let refused = |number| Refusal { number, place: 0 };
-        let link = self
-            .accepted
-            .check(lower, higher, weight)
-            .map_err(refused)?;
-        let cliques = self.new_cliques(link);
-        let added: HashSet<u64> = cliques
-            .iter()
-            .flat_map(|&clique| parts(clique).map(move |q| clique & !(1 << q)))
-            .filter(|&sub| !self.classes.holds(sub))
-            .collect();
-        demand(self.used() + added.len() <= self.slots, 15, 0)?;
-        self.accepted.add(link);
-        for clique in cliques {
-            self.classes.add(clique);
-        }
-        Ok(())
-    }
-
-    /// The k-cliques that a link not yet accepted would make.
-    fn new_cliques(&self, link: Link) -> Vec<u64> {
-        let rows = self.accepted.rows();
-        let common = rows[usize::from(link.lower)] & rows[usize::from(link.higher)];
-        let ends = 1 << link.lower | 1 << link.higher;
-        let mut cliques = Vec::new();
-        each_clique(rows, ends, common, self.k - 2, &mut |clique| {
-            cliques.push(clique)
-        });
-        cliques
-    }
-
     /// The listing now, into an output of so many bytes.
     pub fn listing_now(&self, out: usize) -> Expected {
         let listing = self.listing();
         let bytes = listing_bytes(&listing);
-        let (outcome, output) = match demand(bytes.len() <= out, 16, 0) {
-            Err(refusal) => (refusal.into(), Vec::new()),
-            Ok(()) => (Outcome::count(listing.len()), bytes),
-        };
-        Expected {
-            outcome,
-            output,
-            tables: Left::Untouched,
-        }
+        Expected::written(listing.len(), bytes, out, Left::Untouched)
     }
 
-    /// What is wrong with the tables, if they don't show the accepted links
-    /// as the requirement says. Slot order and the free fields are free.
-    pub fn check_tables(&mut self, shown: Shown) -> Result<(), String> {
-        let used = self.used();
-        if shown.used != used {
-            return Err(format!("{} used slots, not {used}", shown.used));
+    /// What is wrong with state, tables or journal, if they don't show the
+    /// links that remain as the requirement says.
+    pub fn check_shown(&mut self, shown: Shown) -> Result<(), String> {
+        let found = [shown.p, shown.k, shown.used, shown.last, shown.links];
+        let last = usize::from(self.last_weight());
+        let expected = [self.p, self.k, self.used(), last, self.links.len()];
+        if found != expected {
+            return Err(format!("state: expected {expected:?}, found {found:?}"));
         }
+        let expected = fast::rows(&self.links, 0);
+        if *shown.rows != expected {
+            let found = shown.rows;
+            return Err(format!("rows: expected {expected:x?}, found {found:x?}"));
+        }
+        let expected = self.journal();
+        if shown.journal != expected {
+            let found = shown.journal;
+            return Err(format!("journal: expected {expected:x?}, found {found:x?}"));
+        }
+        self.check_tables(shown)
+    }
+
+    /// What is wrong with the tables. Slot order and the free fields are free.
+    fn check_tables(&mut self, shown: Shown) -> Result<(), String> {
+        let used = shown.used;
         let unused_zero = shown.sets[used..].iter().all(|&n| n == 0)
             && shown.entries[used..].iter().all(|&n| n == 0)
             && shown.smallest[used..].iter().all(|&n| n == 0)

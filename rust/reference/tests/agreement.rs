@@ -1,5 +1,5 @@
 //! The two implementations compared with each other on random networks, and
-//! the rules of inserts with the definitions.
+//! the rules of the steps with the definitions.
 
 use reference::calls::{subset_count, Facts};
 use reference::definition;
@@ -8,7 +8,7 @@ use reference::network::{levels, Community, Link, Mean, Network};
 use reference::published::plain_names;
 use reference::random::Random;
 use reference::sheets::{parse, parse_lists, sheet_bytes, LinksSoFar};
-use reference::steps::Steps;
+use reference::steps::{Step, Steps, JOURNAL_ENTRIES};
 
 /// A random network whose weights are among a few.
 fn network(random: &mut Random, p: usize) -> Network {
@@ -141,74 +141,98 @@ fn definition_and_fast_agree() {
     assert!(compared > 5000);
 }
 
-/// Tries a list of random inserts, each against the definitions, and gives
-/// the number of inserts.
+/// Tries a list of random inserts and takings back, each against the
+/// definitions, and gives the number of steps.
 fn compare_steps(random: &mut Random) -> usize {
     let (p, k) = (random.within(1, 8), random.within(2, 6));
     let most = subset_count(p, k - 1);
     let slots = random.within(0, most);
-    let mut steps = Steps::start(p, k, [slots; 4]).expect("an accepted start");
-    let mut last = 9;
-    let inserts = random.within(0, 60);
-    for _ in 0..inserts {
-        let (lower, higher) = (random.below(p + 1), random.below(p + 1));
-        let weight = match random.chance(90) {
-            true => random.within(last.max(2) - 2, last),
-            false => random.below(11),
-        } as u16;
-        let links = steps.links().to_vec();
-        let answer = steps.insert(lower, higher, weight).map_err(|r| r.number);
-        assert_eq!(
-            answer,
-            by_definition(p, k, slots, &links, (lower, higher), weight)
-        );
-        if answer.is_ok() {
-            last = usize::from(weight);
-        }
-        let links = steps.links();
-        assert_eq!(steps.used(), definition::slot_cliques(links, p, k).len());
-        assert_eq!(steps.listing(), definition::listing(links, p, k, 0));
+    let mut steps = Steps::start(p, k, [slots; 4], JOURNAL_ENTRIES).expect("an accepted start");
+    let mut remaining: Vec<Link> = Vec::new();
+    let back = random.pick(&[0, 10, 40, 60]);
+    let count = random.within(0, 60);
+    for _ in 0..count {
+        let step = match random.chance(back) {
+            true => Step::TakeBack,
+            false => random_insert(random, p, remaining.last()),
+        };
+        let answer = steps.step(step).map_err(|r| r.number);
+        assert_eq!(answer, by_definition(p, k, slots, &mut remaining, step));
+        assert_eq!(steps.links(), remaining);
+        let expected = remaining.last().map_or(65_535, |link| link.weight);
+        assert_eq!(steps.last_weight(), expected);
+        let slots = definition::slot_cliques(&remaining, p, k).len();
+        assert_eq!(steps.used(), slots);
+        assert_eq!(steps.listing(), definition::listing(&remaining, p, k, 0));
+        compare_journal(&steps.journal(), &remaining);
     }
-    inserts
+    count
 }
 
+fn random_insert(random: &mut Random, p: usize, last: Option<&Link>) -> Step {
+    let last = last.map_or(9, |link| usize::from(link.weight));
+    let weight = match random.chance(90) {
+        true => random.within(last.max(2) - 2, last),
+        false => random.pick(&[0, 1, 10, 256, 65_535]),
+    };
+    Step::Insert(random.below(p + 1), random.below(p + 1), weight as u16)
+}
+
+/// The journal's entries as bytes: two zeros, the lower part, the higher part
+/// and the weight, two each.
+fn compare_journal(journal: &[u64], remaining: &[Link]) {
+    assert_eq!(journal.len(), 2_016);
+    let (links, rest) = journal.split_at(remaining.len());
+    for (entry, link) in links.iter().zip(remaining) {
+        let [high, low] = link.weight.to_be_bytes();
+        let bytes = [0, 0, 0, link.lower, 0, link.higher, high, low];
+        assert_eq!(entry.to_be_bytes(), bytes);
+    }
+    assert!(rest.iter().all(|&entry| entry == 0));
+}
+
+/// The answer to a step by the definitions, which changes the links that
+/// remain where it is accepted.
 fn by_definition(
     p: usize,
     k: usize,
     slots: usize,
-    links: &[Link],
-    (lower, higher): (usize, usize),
-    weight: u16,
+    remaining: &mut Vec<Link>,
+    step: Step,
 ) -> Result<(), u8> {
+    let Step::Insert(lower, higher, weight) = step else {
+        return remaining.pop().map(|_| ()).ok_or(19);
+    };
     if lower >= p || higher >= p || lower >= higher {
         return Err(6);
     }
     if weight == 0 {
         return Err(7);
     }
-    if links.iter().any(|link| link.weight < weight) {
+    if remaining.iter().any(|link| link.weight < weight) {
         return Err(8);
     }
-    if definition::linked(links, lower, higher) {
+    if definition::linked(remaining, lower, higher) {
         return Err(9);
     }
-    let mut with = links.to_vec();
+    let mut with = remaining.clone();
     with.push(Link {
         lower: lower as u8,
         higher: higher as u8,
         weight,
     });
-    match definition::slot_cliques(&with, p, k).len() > slots {
-        true => Err(15),
-        false => Ok(()),
+    if definition::slot_cliques(&with, p, k).len() > slots {
+        return Err(15);
     }
+    *remaining = with;
+    Ok(())
 }
 
 #[test]
-fn inserts_follow_the_definitions() {
+fn steps_follow_the_definitions() {
     let mut random = Random::new(2);
-    let inserts: usize = (0..600).map(|_| compare_steps(&mut random)).sum();
-    println!("{inserts} inserts compared");
+    let steps: usize = (0..600).map(|_| compare_steps(&mut random)).sum();
+    println!("{steps} steps compared");
 }
 
 #[test]

@@ -7,7 +7,7 @@ use reference::fast;
 use reference::network::{tree_text, Community, Link, Mean, Network};
 use reference::published::{networks, plain_names, trees};
 use reference::sheets::sheet_bytes;
-use reference::steps::Steps;
+use reference::steps::{Step, Steps, JOURNAL_ENTRIES};
 
 fn links(list: &[(u8, u8, u16)]) -> Vec<Link> {
     let link = |&(lower, higher, weight): &(u8, u8, u16)| Link {
@@ -73,10 +73,10 @@ fn p5_to_p8() {
     sheet.extend(links(&[(1, 3, 2)]));
     expect(&sheet, 5, 3, 2, &[(7, 31)]);
     assert_eq!(definition::slot_cliques(&sheet, 5, 3).len(), 7);
-    let mut steps = Steps::start(5, 3, [6; 4]).expect("an accepted start");
-    let mut insert = |l: &Link| steps.insert(l.lower.into(), l.higher.into(), l.weight);
+    let mut steps = Steps::start(5, 3, [6; 4], JOURNAL_ENTRIES).expect("an accepted start");
+    let mut insert = |link: &Link| steps.step((*link).into()).map_err(|r| r.number);
     assert!(sheet[..6].iter().all(|link| insert(link).is_ok()));
-    assert_eq!(insert(&sheet[6]).map_err(|r| r.number), Err(15));
+    assert_eq!(insert(&sheet[6]), Err(15));
     let text = "parts 5 links 7\n\
         line 1 weight 4 joins 0 into 3 smallest 7 parts 7\n\
         line 2 weight 4 joins 0 into 3 smallest 28 parts 28\n\
@@ -84,6 +84,35 @@ fn p5_to_p8() {
         end 3\n";
     assert_eq!(tree_text(5, 7, &definition::tree(&sheet, 5, 3)), text);
     assert_eq!(tree_text(5, 7, &fast::tree(&sheet, 5, 3)), text);
+}
+
+/// The request's own words: the last link goes, a heavier one may follow, and
+/// with no link left there is nothing to take back.
+#[test]
+fn p8_taken_back() {
+    let mut steps = Steps::start(5, 3, [7; 4], JOURNAL_ENTRIES).expect("an accepted start");
+    let mut step = |step| {
+        let answer = steps.step(step).map_or_else(|r| r.number, |()| 0);
+        (
+            answer,
+            steps.used(),
+            steps.last_weight(),
+            steps.links().len(),
+        )
+    };
+    for link in two_triangles() {
+        assert_eq!(step(link.into()).0, 0);
+    }
+    assert_eq!(step(Step::Insert(1, 3, 2)), (0, 7, 2, 7));
+    assert_eq!(step(Step::Insert(0, 3, 3)), (8, 7, 2, 7));
+    assert_eq!(step(Step::TakeBack), (0, 6, 4, 6));
+    assert_eq!(step(Step::Insert(1, 3, 3)), (0, 7, 3, 7));
+    for links in (0..7).rev() {
+        assert_eq!(step(Step::TakeBack).3, links);
+    }
+    assert_eq!(step(Step::TakeBack), (19, 0, 65_535, 0));
+    assert_eq!(step(Step::Insert(0, 1, 65_535)), (0, 0, 65_535, 1));
+    assert_eq!(steps.journal()[..2], [0x0001_ffff, 0]);
 }
 
 #[test]

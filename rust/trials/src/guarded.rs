@@ -52,6 +52,15 @@ impl<T: Cell> Guarded<T> {
         guarded
     }
 
+    /// Cells of another length that begin with the same values.
+    pub fn resized(&self, random: &mut Random, length: usize) -> Guarded<T> {
+        let mut guarded = Guarded::junk(random, length);
+        let same = length.min(self.get().len());
+        guarded.get_mut()[..same].copy_from_slice(&self.get()[..same]);
+        guarded.settle();
+        guarded
+    }
+
     fn end(&self) -> usize {
         self.cells.len() - self.guard
     }
@@ -171,5 +180,55 @@ impl GuardedTables {
         self.entries.check_guards("entries")?;
         self.smallest.check_guards("smallest cliques")?;
         self.unions.check_guards("unions")
+    }
+}
+
+/// What the steps are lent: the four tables and the journal, guarded.
+#[derive(Clone, Debug)]
+pub struct StepSpace {
+    pub tables: GuardedTables,
+    pub journal: Guarded<u64>,
+}
+
+impl StepSpace {
+    pub fn junk(random: &mut Random, lengths: [usize; 4], journal: usize) -> StepSpace {
+        StepSpace {
+            tables: GuardedTables::junk(random, lengths),
+            journal: Guarded::junk(random, journal),
+        }
+    }
+
+    /// Tables and a journal of other lengths that begin with the same cells.
+    pub fn resized(&self, random: &mut Random, lengths: [usize; 4], journal: usize) -> StepSpace {
+        let tables = &self.tables;
+        StepSpace {
+            tables: GuardedTables {
+                sets: tables.sets.resized(random, lengths[0]),
+                entries: tables.entries.resized(random, lengths[1]),
+                smallest: tables.smallest.resized(random, lengths[2]),
+                unions: tables.unions.resized(random, lengths[3]),
+            },
+            journal: self.journal.resized(random, journal),
+        }
+    }
+
+    pub fn settle(&mut self) {
+        self.tables.settle();
+        self.journal.settle();
+    }
+
+    pub fn check_untouched(&self) -> Result<(), String> {
+        self.tables.check_untouched()?;
+        self.journal.check("journal", &[])
+    }
+
+    pub fn check_zero(&self) -> Result<(), String> {
+        self.tables.check_zero()?;
+        self.journal.check_zero("journal")
+    }
+
+    pub fn check_guards(&self) -> Result<(), String> {
+        self.tables.check_guards()?;
+        self.journal.check_guards("journal")
     }
 }

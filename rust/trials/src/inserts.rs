@@ -1,11 +1,13 @@
-//! A list of inserts, run beside the reference's.
+//! A list of inserts and takings back, run beside the reference's.
 
 use families::lent::{self, Started, State};
+use reference::calls::{Expected, Left};
 use reference::sheets::Refusal;
-use reference::steps::{Shown, Steps};
+use reference::steps::{check_state, check_step, Shown, Step, Steps, JOURNAL_ENTRIES};
 
+use crate::arguments::around;
 use crate::calls::check_outcome;
-use crate::guarded::{Guarded, GuardedTables};
+use crate::guarded::{Guarded, StepSpace};
 use crate::trials::Trials;
 
 /// The state that a refused start gives.
@@ -14,17 +16,25 @@ pub const ZERO_STATE: State = State {
     k: 0,
     used: 0,
     last: 0,
+    links: 0,
     rows: [0; 64],
 };
 
-/// The tables as the reference reads them.
-pub fn shown(state: State, tables: &GuardedTables) -> Shown<'_> {
+/// State, tables and journal as the reference reads them.
+pub fn shown<'a>(state: &'a State, space: &'a StepSpace) -> Shown<'a> {
+    let tables = &space.tables;
     Shown {
+        p: state.p,
+        k: state.k,
         used: state.used,
+        last: state.last,
+        links: state.links,
+        rows: &state.rows,
         sets: tables.sets.get(),
         entries: tables.entries.get(),
         smallest: tables.smallest.get(),
         unions: tables.unions.get(),
+        journal: space.journal.get(),
     }
 }
 
@@ -32,110 +42,128 @@ fn accepted() -> reference::calls::Outcome {
     reference::calls::Outcome::default()
 }
 
-/// A list of inserts in progress: the library's state and tables, and the
-/// reference's accepted links.
+/// A step by the library.
+pub fn make_step(state: State, space: &mut StepSpace, step: Step) -> Started {
+    let (tables, journal) = (space.tables.lend_mut(), space.journal.get_mut());
+    match step {
+        Step::Insert(lower, higher, weight) => {
+            lent::insert(state, tables, journal, lower, higher, weight)
+        }
+        Step::TakeBack => lent::take_back(state, tables, journal),
+    }
+}
+
+/// What is wrong with a refused step, unless it left this state, the tables
+/// and the journal.
+pub fn check_refused(
+    found: Started,
+    refusal: Refusal,
+    state: State,
+    space: &StepSpace,
+) -> Result<(), String> {
+    check_outcome(found.outcome, refusal.into())?;
+    if found.state != state {
+        let found = found.state;
+        return Err(format!("state: expected {state:x?}\nfound {found:x?}"));
+    }
+    space.check_untouched()
+}
+
+/// A list of steps in progress: the library's state, tables and journal, and
+/// the links that remain by the reference.
 #[derive(Clone)]
 pub struct Inserts {
     p: usize,
     k: usize,
     pub steps: Steps,
     pub state: State,
-    pub tables: GuardedTables,
-    tried: Vec<(usize, usize, u16)>,
+    pub space: StepSpace,
+    tried: Vec<Step>,
 }
 
 impl Inserts {
-    /// Starts a list with tables of random content; none where the start is
-    /// refused.
-    pub fn start(trials: &mut Trials, p: usize, k: usize, lengths: [usize; 4]) -> Option<Inserts> {
-        let mut tables = GuardedTables::junk(&mut trials.random, lengths);
-        let Started { outcome, state } = lent::start(p, k, tables.lend_mut());
-        let steps = Steps::start(p, k, lengths);
-        let verdict = match &steps {
-            Err(refusal) => check_outcome(outcome, (*refusal).into())
-                .and_then(|()| same_state(state, ZERO_STATE))
-                .and_then(|()| tables.check_untouched()),
-            Ok(_) => check_outcome(outcome, accepted())
-                .and_then(|()| numbers(state, (p, k, 0, 65_535)))
-                .and_then(|()| tables.check_zero()),
+    /// An accepted start with so many slots.
+    pub fn start(trials: &mut Trials, p: usize, k: usize, slots: usize) -> Inserts {
+        Inserts::try_start(trials, p, k, [slots; 4], JOURNAL_ENTRIES).expect("an accepted start")
+    }
+
+    /// Starts a list with tables and a journal of random content.
+    pub fn try_start(
+        trials: &mut Trials,
+        p: usize,
+        k: usize,
+        lengths: [usize; 4],
+        journal: usize,
+    ) -> Result<Inserts, Refusal> {
+        let mut space = StepSpace::junk(&mut trials.random, lengths, journal);
+        let started = lent::start(p, k, space.tables.lend_mut(), space.journal.get_mut());
+        let mut steps = Steps::start(p, k, lengths, journal);
+        let verdict = match &mut steps {
+            Err(refusal) => check_refused(started, *refusal, ZERO_STATE, &space),
+            Ok(steps) => check_outcome(started.outcome, accepted())
+                .and_then(|()| space.check_zero())
+                .and_then(|()| steps.check_shown(shown(&started.state, &space))),
         };
         trials.expect(verdict, || {
-            format!("start, p {p}, k {k}, tables {lengths:?}")
+            format!("start, p {p}, k {k}, tables {lengths:?}, journal {journal}")
         });
-        tables.settle();
-        Some(Inserts {
+        space.settle();
+        Ok(Inserts {
             p,
             k,
-            steps: steps.ok()?,
-            state,
-            tables,
+            steps: steps?,
+            state: started.state,
+            space,
             tried: Vec::new(),
         })
     }
 
-    /// Tries a link on both sides and gives the reference's answer.
-    pub fn insert(
-        &mut self,
-        trials: &mut Trials,
-        (lower, higher, weight): (usize, usize, u16),
-    ) -> Result<(), Refusal> {
-        self.tried.push((lower, higher, weight));
+    /// Makes a step on both sides, compares the listing now, and gives the
+    /// reference's answer.
+    pub fn step(&mut self, trials: &mut Trials, step: Step) -> Result<(), Refusal> {
+        self.tried.push(step);
         let before = self.state;
-        let after = lent::insert(before, self.tables.lend_mut(), lower, higher, weight);
-        let answer = self.steps.insert(lower, higher, weight);
+        let answer =
+            check_step(shown(&before, &self.space), step).and_then(|()| self.steps.step(step));
+        let after = make_step(before, &mut self.space, step);
         let verdict = match answer {
-            Err(refusal) => check_outcome(after.outcome, refusal.into())
-                .and_then(|()| same_state(after.state, before))
-                .and_then(|()| self.tables.check_untouched()),
+            Err(refusal) => check_refused(after, refusal, before, &self.space),
             Ok(()) => check_outcome(after.outcome, accepted())
-                .and_then(|()| self.check_accepted(after.state, weight)),
+                .and_then(|()| self.space.check_guards())
+                .and_then(|()| self.steps.check_shown(shown(&after.state, &self.space))),
         };
-        trials.expect(verdict, || self.input("insert"));
+        trials.expect(verdict, || self.input("the last step"));
         self.state = after.state;
-        self.tables.settle();
+        self.space.settle();
+        let mut out = 16 * self.steps.listing().len();
+        if trials.random.chance(10) {
+            out = around(&mut trials.random, out);
+        }
+        self.listing_now(trials, out);
         answer
     }
 
-    fn check_accepted(&mut self, state: State, weight: u16) -> Result<(), String> {
-        let used = self.steps.used();
-        numbers(state, (self.p, self.k, used, weight.into()))?;
-        self.tables.check_guards()?;
-        self.steps.check_tables(shown(state, &self.tables))
-    }
-
-    /// The listing now, into an output of so many bytes.
-    pub fn listing_now(&self, trials: &mut Trials, out: usize) {
+    /// The listing now, into an output of so many bytes; gives what was
+    /// expected of it.
+    pub fn listing_now(&self, trials: &mut Trials, out: usize) -> Expected {
         let mut output = Guarded::junk(&mut trials.random, out);
-        let found = lent::listing_now(self.state, self.tables.lend(), output.get_mut());
-        let expected = self.steps.listing_now(out);
+        let found = lent::listing_now(self.state, self.space.tables.lend(), output.get_mut());
+        let expected = match check_state(shown(&self.state, &self.space)) {
+            Err(refusal) => Expected::refused(refusal, Left::Untouched),
+            Ok(()) => self.steps.listing_now(out),
+        };
         let verdict = check_outcome(found, expected.outcome)
             .and_then(|()| output.check("output", &expected.output))
-            .and_then(|()| self.tables.check_untouched());
+            .and_then(|()| self.space.check_untouched());
         trials.expect(verdict, || {
             self.input(&format!("listing now, output {out}"))
         });
+        expected
     }
 
     fn input(&self, call: &str) -> String {
         let Inserts { p, k, tried, .. } = self;
-        let lengths = self.tables.lengths();
-        format!("{call}, p {p}, k {k}, tables {lengths:?}, inserts so far {tried:x?}")
-    }
-}
-
-/// What is wrong with a state's numbers: p, k, used slots and last weight.
-fn numbers(state: State, expected: (usize, usize, usize, usize)) -> Result<(), String> {
-    let found = (state.p, state.k, state.used, state.last);
-    match found == expected {
-        true => Ok(()),
-        false => Err(format!("state: expected {expected:?}, found {found:?}")),
-    }
-}
-
-/// What is wrong unless two states are the same.
-pub fn same_state(found: State, expected: State) -> Result<(), String> {
-    match found == expected {
-        true => Ok(()),
-        false => Err(format!("state: expected {expected:x?}\nfound {found:x?}")),
+        let (lengths, journal) = (self.space.tables.lengths(), self.space.journal.get().len());
+        format!("{call}, p {p}, k {k}, tables {lengths:?}, journal {journal}, steps {tried:x?}")
     }
 }

@@ -6,6 +6,7 @@ pub mod arguments;
 pub mod calls;
 pub mod guarded;
 pub mod inserts;
+pub mod lists;
 pub mod sheets;
 pub mod trials;
 

@@ -6,9 +6,11 @@ use std::path::Path;
 
 use reference::calls::{self, Expected, ExpectedMean, Judge, Left, Outcome};
 use reference::json::{parse, Value};
-use reference::network::Mean;
+use reference::network::{Link, Mean};
 use reference::sheets::Refusal;
+use reference::steps::Step;
 use trials::calls::FamilyMean;
+use trials::inserts::Inserts;
 use trials::Trials;
 
 fn bytes(value: &Value) -> Vec<u8> {
@@ -25,6 +27,10 @@ fn number(value: &Value) -> usize {
 /// A set of parts from its hexadecimal digits.
 fn set(value: &Value) -> u64 {
     u64::from_str_radix(value.text(), 16).expect("hexadecimal digits")
+}
+
+fn list(value: &Value) -> Vec<u64> {
+    value.list().iter().map(Value::number).collect()
 }
 
 /// The four lengths of the tables.
@@ -55,14 +61,9 @@ fn answer(out: &Value) -> Result<&Value, Refusal> {
 
 /// What a call with one output of bytes must answer.
 fn expected(out: &Value, tables: Left) -> Expected {
-    let output = answer(out).map(|ok| bytes(ok.field("data")));
-    Expected {
-        outcome: match &output {
-            Ok(output) => Outcome::count(output.len()),
-            Err(refusal) => (*refusal).into(),
-        },
-        output: output.unwrap_or_default(),
-        tables,
+    match answer(out).map(|ok| bytes(ok.field("data"))) {
+        Ok(output) => Expected::answered(output.len(), output, tables),
+        Err(refusal) => Expected::refused(refusal, tables),
     }
 }
 
@@ -97,6 +98,123 @@ fn mean_weight(trials: &mut Trials, case: &Value) {
     trials.family_mean_as(&sheet, call, &expected);
 }
 
+/// A start on both sides, which must agree.
+fn start(trials: &mut Trials, given: &Value) -> Result<Inserts, Refusal> {
+    let [p, k, journal] = ["p", "k", "journal"].map(|name| number(given.field(name)));
+    Inserts::try_start(trials, p, k, lengths(given.field("tables")), journal)
+}
+
+/// An insert, a taking back or the listing now, on both sides, which must
+/// agree: the answer as a number, or the listing.
+fn operation(trials: &mut Trials, inserts: &mut Inserts, op: &Value) -> Expected {
+    let numbers: Vec<usize> = op.list()[1..].iter().map(number).collect();
+    let step = match (op.list()[0].text(), &numbers[..]) {
+        ("insert", &[lower, higher, weight]) => Step::Insert(lower, higher, weight as u16),
+        ("back", []) => Step::TakeBack,
+        ("list", &[out]) => return inserts.listing_now(trials, out),
+        _ => panic!("{op:?} is no step"),
+    };
+    match inserts.step(trials, step) {
+        Ok(()) => Expected::answered(0, Vec::new(), Left::Untouched),
+        Err(refusal) => Expected::refused(refusal, Left::Untouched),
+    }
+}
+
+/// What an operation must answer: a refusal's number, 0, or a listing.
+fn answered(told: &Value) -> Expected {
+    match told {
+        Value::Number(0) => Expected::answered(0, Vec::new(), Left::Untouched),
+        Value::Number(number) => {
+            let number = *number as u8;
+            Expected::refused(Refusal { number, place: 0 }, Left::Untouched)
+        }
+        listing => {
+            let (count, bytes) = (number(listing.field("count")), bytes(listing.field("data")));
+            Expected::answered(count, bytes, Left::Untouched)
+        }
+    }
+}
+
+/// A list of steps from a start: every answer and the used slots after it,
+/// then the links that remain, the last weight and the journal.
+fn steps(trials: &mut Trials, case: &Value) {
+    let (given, out) = (case.field("in"), case.field("out"));
+    let started = start(trials, given);
+    let told = number(out.field("start")) as u8;
+    assert_eq!(started.as_ref().err().map_or(0, |r| r.number), told);
+    let Ok(mut inserts) = started else { return };
+    let (answers, used) = (out.field("answers").list(), out.field("used").list());
+    let ops = given.field("ops").list();
+    assert_eq!([answers.len(), used.len()], [ops.len(); 2], "{case:?}");
+    for ((op, told), used) in ops.iter().zip(answers).zip(used) {
+        let found = operation(trials, &mut inserts, op);
+        assert_eq!(found, answered(told), "{op:?} in {case:?}");
+        assert_eq!(inserts.state.used, number(used), "{op:?} in {case:?}");
+    }
+    remains(&inserts, out);
+}
+
+/// What remains at the end of a list, by the case and by both sides.
+fn remains(inserts: &Inserts, out: &Value) {
+    let numbers = |link: &Value| <[u64; 3]>::try_from(list(link)).expect("three numbers");
+    let told: Vec<[u64; 3]> = out.field("links").list().iter().map(numbers).collect();
+    let numbers = |link: &Link| [link.lower.into(), link.higher.into(), link.weight.into()];
+    let links: Vec<[u64; 3]> = inserts.steps.links().iter().map(numbers).collect();
+    assert_eq!((links, inserts.state.links), (told.clone(), told.len()));
+    let last = match out.field("last_weight") {
+        Value::Null => 65_535,
+        weight => number(weight),
+    };
+    assert_eq!(inserts.state.last, last);
+    let mut journal = list(out.field("journal"));
+    journal.resize(2_016, 0);
+    assert_eq!(inserts.space.journal.get(), journal);
+}
+
+/// State, table and journal lengths of a list with the case's numbers in
+/// their place.
+fn patch(trials: &mut Trials, inserts: &mut Inserts, patch: &Value) {
+    let Value::Record(fields) = patch else {
+        panic!("{patch:?} is no patch")
+    };
+    let mut tables = inserts.space.tables.lengths();
+    let mut journal = inserts.space.journal.get().len();
+    for (name, value) in fields {
+        match name.as_str() {
+            "p" => inserts.state.p = number(value),
+            "used" => inserts.state.used = number(value),
+            "tables" => tables = lengths(value),
+            "journal" => journal = number(value),
+            other => panic!("no trial for a patch of {other}"),
+        }
+    }
+    inserts.space = inserts.space.resized(&mut trials.random, tables, journal);
+}
+
+/// The refusal of a start, or of a step after a list whose state, tables or
+/// journal were spoiled.
+fn state_check(trials: &mut Trials, case: &Value) {
+    let (given, out) = (case.field("in"), case.field("out"));
+    let told = answer(out).err().map_or(Outcome::default(), Outcome::from);
+    let started = start(trials, given);
+    if given.field("start_only") == &Value::Truth(true) {
+        let found = started.err().map_or(Outcome::default(), Outcome::from);
+        return assert_eq!(found, told, "{case:?}");
+    }
+    let mut inserts = started.expect("an accepted start");
+    for op in given.field("ops").list() {
+        let found = operation(trials, &mut inserts, op).outcome;
+        assert_eq!(found, Outcome::default(), "{op:?} in {case:?}");
+    }
+    patch(trials, &mut inserts, given.field("patch"));
+    let found = operation(trials, &mut inserts, given.field("then")).outcome;
+    assert_eq!(
+        (found.number, found.place),
+        (told.number, told.place),
+        "{case:?}"
+    );
+}
+
 /// The library and the reference on one case.
 fn tried(trials: &mut Trials, case: &Value) {
     let (given, out) = (case.field("in"), case.field("out"));
@@ -108,6 +226,8 @@ fn tried(trials: &mut Trials, case: &Value) {
             trials.dump_sheet_as(&dump, length, &expected);
         }
         "mean_weight" => mean_weight(trials, case),
+        "steps" => steps(trials, case),
+        "state_check" => state_check(trials, case),
         call => panic!("no trial for the call {call}"),
     }
 }

@@ -135,6 +135,17 @@ fn inserts() {
     }
     assert_eq!(run.used_slots(), 7);
     assert_eq!(run.listing_now(), Ok(vec![shown(7, 31)]));
+    assert_eq!(run.links()[5..], [(3, 4, 4), (1, 3, 2)]);
+    assert_eq!(run.take_back(), Ok(()));
+    assert_eq!(run.listing_now(), Ok(vec![shown(7, 7), shown(28, 28)]));
+    assert_eq!(run.insert(1, 3, 3), Ok(()));
+    assert_eq!((run.links().len(), run.links()[6]), (7, (1, 3, 3)));
+    for _ in 0..7 {
+        assert_eq!(run.take_back(), Ok(()));
+    }
+    assert_eq!(run.take_back().unwrap_err().number, 19);
+    assert_eq!((run.used_slots(), run.links()), (0, vec![]));
+    assert_eq!(run.insert(0, 1, 65_535), Ok(()));
     for (p, k, number) in [(0, 3, 4), (65, 9, 4), (3, 7, 10), (3, 1, 10)] {
         let refused = Sequential::start(p, k, Space::Bound).unwrap_err();
         assert_eq!((refused.number, refused.place), (number, 0));
@@ -174,10 +185,10 @@ fn bounds_and_words() {
     assert_eq!(subset_count(65, 5), 0);
     let words = |number| Refused { number, place: 36 }.to_string();
     assert_eq!(words(9), "refused 9 at 36: pair given before");
-    let mut sentences: Vec<String> = (1..=16).map(words).collect();
+    let mut sentences: Vec<String> = (1..=20).map(words).collect();
     sentences.sort();
     sentences.dedup();
-    assert_eq!(sentences.len(), 16);
+    assert_eq!(sentences.len(), 20);
     assert!(!sentences.iter().any(|s| s.contains("without a meaning")));
 }
 

@@ -2,7 +2,7 @@
 //! time, so they run only where they are asked for (`-- --ignored`).
 
 use families::lent::{self, State};
-use families::{Space, Tables, MOST_SLOTS};
+use families::{Space, Tables, JOURNAL_ENTRIES, MOST_SLOTS};
 use reference::network::{Link, Network};
 use reference::published::plain_names;
 use reference::sheets::sheet_bytes;
@@ -75,13 +75,16 @@ fn used_slots_beyond_the_limit() {
     let trials = &mut Trials::new("used slots beyond the limit");
     trials.case();
     let mut tables = Tables::new(MOST_SLOTS + 1);
-    let started = lent::start(5, 3, tables.as_mut());
+    let mut journal = vec![7; JOURNAL_ENTRIES];
+    let started = lent::start(5, 3, tables.as_mut(), &mut journal);
     assert_eq!(started.outcome.number, 0);
     let state = State {
         used: MOST_SLOTS + 1,
         ..started.state
     };
-    let after = lent::insert(state, tables.as_mut(), 0, 1, 5);
+    let after = lent::insert(state, tables.as_mut(), &mut journal, 0, 1, 5);
+    assert_eq!((after.outcome.number, after.state), (12, state));
+    let after = lent::take_back(state, tables.as_mut(), &mut journal);
     assert_eq!((after.outcome.number, after.state), (12, state));
     let outcome = lent::listing_now(state, tables.as_ref(), &mut []);
     assert_eq!(outcome.number, 12);

@@ -10,7 +10,7 @@ no-rows-requires : tie.Need-no-rows-requires
 no-rows-requires c κs = search needs
 
 returns : tie.Need-returns
-returns c = (refl, ap (λ (R : List ℕ). state 0 0 0 0 R) (c .no-rows .ensures))
+returns c = (refl, ap (λ (R : List ℕ). state 0 0 0 0 0 R) (c .no-rows .ensures))
 
 pub not-started-spec : {M : Type 1} → statement M
 not-started-spec = tie.close (tie.spec no-rows-requires returns)

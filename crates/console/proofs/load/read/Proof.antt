@@ -3,6 +3,7 @@ use borrow.Author.Needs.{needs}
 use Prim.Native.Nat.{_≤_, _-_}
 use mathlib.Core.Path.{_≡_, refl}
 use lib.ListN.{length}
+use Rattle.console.proofs.Bounds.{within-bytes}
 use Rattle.console.proofs.load.read.Statement.{statement}
 use Rattle.console.proofs.load.read.Tie as tie
 
@@ -36,9 +37,6 @@ same-length-2 c = omega arith
 returns-2 : tie.Need-returns-2 Inv-loop μ-loop
 returns-2 c = search needs
 
-sub-if2 : tie.Need-sub-if2 Inv-loop μ-loop
-sub-if2 c = omega arith
-
 same-length-3 : tie.Need-same-length-3 Inv-loop μ-loop
 same-length-3 c = omega arith
 
@@ -46,19 +44,13 @@ returns-3 : tie.Need-returns-3 Inv-loop μ-loop
 returns-3 c = search needs
 
 add-n : tie.Need-add-n Inv-loop μ-loop
-add-n c = omega arith
+add-n c = omega (arith, within-bytes _ _ _ _ (c .before .before .before .before .before .before .read-on .ensures) (c .before .before .more .given .1))
 
 loop-less : tie.Need-loop-less Inv-loop μ-loop
 loop-less c = omega arith
 
 loop-again : tie.Need-loop-again Inv-loop μ-loop
-loop-again c = (omega arith, omega arith)
-
-same-length-4 : tie.Need-same-length-4 Inv-loop μ-loop
-same-length-4 c = omega arith
-
-returns-4 : tie.Need-returns-4 Inv-loop μ-loop
-returns-4 c = search needs
+loop-again c = (omega (arith, within-bytes _ _ _ _ (c .before .before .before .before .before .before .read-on .ensures) (c .before .before .more .given .1)), omega arith)
 
 pub read-spec : {M : Type 1} → statement M
 read-spec =
@@ -74,11 +66,8 @@ read-spec =
     returns
     same-length-2
     returns-2
-    sub-if2
-    same-length-3
-    returns-3
     add-n
     loop-less
     loop-again
-    same-length-4
-    returns-4)
+    same-length-3
+    returns-3)

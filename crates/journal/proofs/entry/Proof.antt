@@ -1,0 +1,23 @@
+use Rattle.journal.specs.Journal.{journalEntry}
+use borrow.Author.Needs.{needs}
+use Rattle.journal.proofs.entry.Statement.{statement}
+use Rattle.journal.proofs.entry.Tie as tie
+
+mul-result : tie.Need-mul-result
+mul-result c = search needs
+
+mul-result-2 : tie.Need-mul-result-2
+mul-result-2 c = search needs
+
+add-result : tie.Need-add-result
+add-result c = search needs
+
+add-result-2 : tie.Need-add-result-2
+add-result-2 c = search needs
+
+returns : tie.Need-returns
+unfolding journalEntry
+returns c = search needs
+
+pub entry-spec : {M : Type 1} → statement M
+entry-spec = tie.close (tie.spec mul-result mul-result-2 add-result add-result-2 returns)

@@ -1,0 +1,3 @@
+mod Moved
+mod Alone
+pub mod Bounds
