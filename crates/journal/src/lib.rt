@@ -78,7 +78,7 @@ pub fn put(journal: &mut [u64], i: usize, e: u64)
     }
 }
 
-// A link behind the first n. Gives how many there are then.
+// A link behind the first n. Gives how many there are then. For sister crates: check 6 shows what is required of its parts.
 pub fn add(journal: &mut [u64], n: usize, low: usize, high: usize, weight: u16) -> usize
     requires { ⌜ (low < width) × (high < width) ⌝ }
     ensures { λ r. ⌜ (now (journal .exit) ≡ set (now (journal .entry)) n (journalEntry (link low high weight))) × (r ≡ min (suc n) journalLength) ⌝ }
@@ -88,7 +88,7 @@ pub fn add(journal: &mut [u64], n: usize, low: usize, high: usize, weight: u16) 
     one_more(n)
 }
 
-// The weight of the last of the first n links, 65,535 with none.
+// The weight of the last of the first n links, 65,535 with none. For sister crates: 20 shows that the journal has so many entries.
 pub fn last_weight(journal: &[u64], n: usize) -> usize
     requires { ⌜ n ≤ length (now journal) ⌝ }
     ensures { λ r. ⌜ r ≡ lastWeight (map entryLink (take n (now (journal .entry)))) ⌝ }
@@ -131,7 +131,7 @@ fn mark(e: u64, p: usize, rows: &mut [u64])
     checks::add_link(rows, low, high);
 }
 
-// The rows of neighbours of the first n entries.
+// The rows of neighbours of the first n entries. For sister crates: 20 shows that the journal has so many.
 pub fn rows_of(journal: &[u64], n: usize, p: usize) -> Rows
     requires { ⌜ n ≤ length (now journal) ⌝ }
     ensures { λ r. ⌜ r ≡ rowsWith noRows (readable p (take n (now (journal .entry)))) ⌝ }
@@ -210,7 +210,7 @@ fn replay(
 }
 
 // The tables without the link of entry n, where the rows are those of the entries before it: as they are where it made no k-clique, else made again from
-// these entries. Gives how many slots are used then.
+// these entries. Gives how many slots are used then. For sister crates: 20 shows what is required of n, 12 of p and k.
 pub fn refill(
     journal: &[u64],
     n: usize,
