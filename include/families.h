@@ -23,8 +23,10 @@
  *   14 a part not below the part count          15 too few slots        16 an output too short
  *   17 a dump's mark, version or length         18 a row with a part not below the part count
  *   19 a state with no link to take back        20 a journal of other than 2,016 entries
- * place is a byte of the sheet for 1 to 9 of a call that reads a sheet, a byte of the dump for 4, 5, 17 and 18 of
- * families_dump_sheet, else 0.
+ *   21 a name equal to an earlier one
+ * Every name passes 5 before 21 is told, and 21 comes before the first link or row.
+ * place is a byte of the sheet for 1 to 9 and 21 of a call that reads a sheet, a byte of the dump for 4, 5, 17, 18 and 21
+ * of families_dump_sheet, else 0. Where it is a byte, for 5 and 21 it is the first of the name, for 21 of the later one.
  */
 #ifndef FAMILIES_H
 #define FAMILIES_H
@@ -37,7 +39,7 @@ extern "C" {
 #endif
 
 /* The number of the latest change request that has landed, in order of landing; 0: the base. */
-#define FAMILIES_EDITION 3
+#define FAMILIES_EDITION 4
 
 /* On a refusal count and parts are 0. parts is 0 from every call but families_read. */
 typedef struct {
@@ -189,7 +191,7 @@ families_outcome families_meeting_maximal(
 /*
  * The mean link weight of the family that the k-clique `clique` belongs to over links of weight t or more. Counted is each link that lies in some
  * k-clique of this family; a link with both ends among the family's parts may lie in none. Every k-clique of one family gets the same answer.
- * Refused in this order: the sheet (1 to 9), 10, 11, 13 for a set that is no k-clique at t, 15 for too few slots at t. Up to 13 the tables stay as
+ * Refused in this order: the sheet (1 to 9, 21), 10, 11, 13 for a set that is no k-clique at t, 15 for too few slots at t. Up to 13 the tables stay as
  * they were; from 15 on, success too, they are zero. count = links, at least 1. C cuts a threshold above 65,535 silently.
  */
 families_mean families_family_mean(

@@ -1,4 +1,4 @@
-/* Calls every function of families.h on document 01's examples P8 and P9 and prints what it answers; also a sheet that is refused. */
+/* Calls every function of families.h on document 01's examples P8 and P9 and prints what it answers; also sheets that are refused. */
 #include <inttypes.h>
 #include <stdio.h>
 #include <string.h>
@@ -53,6 +53,21 @@ static void from_dump(void)
         printf("  %u-%u of %" PRIu64 "\n", (unsigned)out[i], (unsigned)out[i + 1], number(out + i + 2, 2));
     show("dump sheet, no room", families_dump_sheet(dump, length, out, o.count - 1));
     show("dump sheet, a byte short", families_dump_sheet(dump, length - 1, out, sizeof out));
+    uint8_t again[sizeof dump];
+    memcpy(again, dump, sizeof dump);
+    memcpy(again + 24, again + 8, 8);
+    show("dump sheet, a name again", families_dump_sheet(again, length, out, sizeof out));
+}
+
+/* P8 with the second part's name for the fourth one too. */
+static void name_again(size_t length)
+{
+    uint8_t again[OUT], read_names[40];
+    uint16_t a[7], b[7], w[7];
+    memcpy(again, sheet, length);
+    memcpy(again + 32, again + 16, 8);
+    show("read, a name again", families_read(again, length, read_names, 40, a, 7, b, 7, w, 7));
+    show("write, a name again", families_write(again + 8, 40, lower, 7, higher, 7, weights, 7, out, sizeof out));
 }
 
 static size_t reads_and_writes(void)
@@ -71,6 +86,7 @@ static size_t reads_and_writes(void)
     show("name", n);
     printf("  %.8s\n", (const char *)sheet + n.count);
     show("name of part 5", families_name(sheet, o.count, 5));
+    name_again(o.count);
     return o.count;
 }
 

@@ -1,6 +1,6 @@
 -- Checks whose tests are known, checks in order, what is said, and what is written to lent space. Assumes nothing.
 use mathlib.Core.Bool.{Bool, true, false, true≢false, false≢true}
-use mathlib.Core.Path.{_≡_, refl, sym, ap, _∙_}
+use mathlib.Core.Path.{_≡_, refl, sym, ap, ap₂, _∙_}
 use mathlib.Core.Logic.{_⊎_, inl, inr}
 use mathlib.Core.List.{List, [], _∷_, _++_}
 use Prim.Native.Nat.{ℕ, zero, suc, _≤_, _<_}
@@ -112,6 +112,11 @@ order-stop check (suc n) i k a l e f = pick (λ h. order-stop check n i k a h e 
     pick : (i < n → inOrder check n ≡ refused k a) → (i < n) ⊎ (i ≡ n) → inOrder check (suc n) ≡ refused k a
     pick rest (inl h) = then-stop (inOrder check n) (check n) k a (rest h)
     pick rest (inr s) = then-go (inOrder check n) (check n) (ap (inOrder check) (sym s) ∙ e) ∙ ap check (sym s) ∙ f
+
+pub order-same : (f g : ℕ → Verdict) (n : ℕ) → ((i : ℕ) → i < n → f i ≡ g i) → inOrder f n ≡ inOrder g n
+unfolding inOrder
+order-same f g zero h = refl
+order-same f g (suc n) h = ap₂ _then_ (order-same f g n (λ i l. h i (omega arith))) (h n (omega arith))
 
 -- two checks that both refuse: the first stands
 pub first-stands : inOrder (λ i. refused (suc i) 0) 2 ≡ refused 1 0

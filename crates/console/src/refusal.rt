@@ -22,13 +22,13 @@ fn link_at(s: &[u8], place: usize) {
 
 fn owner(s: &[u8], number: u8, place: usize) {
     match number {
-        5 => part_at(s, place),
+        5 | 21 => part_at(s, place),
         6 | 7 | 8 | 9 => link_at(s, place),
         _ => {}
     }
 }
 
-// 1 to 9: what is wrong with a sheet.
+// 1 to 9 and 21: what is wrong with a sheet.
 fn of_sheet(number: u8) {
     match number {
         1 => error(b"no link sheet: it does not begin with PLS"),
@@ -40,6 +40,7 @@ fn of_sheet(number: u8) {
         7 => error(b"the weight is 0"),
         8 => error(b"the weight is above that of the link before"),
         9 => error(b"this pair of parts was given before"),
+        21 => error(b"a part before this one has the same name"),
         _ => {}
     }
 }

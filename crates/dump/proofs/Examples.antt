@@ -103,6 +103,15 @@ pub name-first : checkDump (headOf 2 1 ++ name 65 ++ name 32 ++ row 4) ≡ refus
 unfolding checkDump
 name-first = refl
 
+-- 21 at the later of two equal names, before 18 at the first row; 5 before it
+pub name-again : checkDump (headOf 2 1 ++ name 65 ++ name 65 ++ row 4) ≡ refused 21 16
+unfolding checkDump
+name-again = refl
+
+pub form-first : checkDump (headOf 3 1 ++ name 65 ++ name 65 ++ name 32 ++ row 8) ≡ refused 5 24
+unfolding checkDump
+form-first = refl
+
 -- 18 at the second row: part 3 of three parts; the third has it too
 pub part-too-many : checkDump (three 3 (row 7 ++ row 8 ++ row 8)) ≡ refused 18 40
 unfolding checkDump

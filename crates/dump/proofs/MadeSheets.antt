@@ -17,8 +17,8 @@ use Rattle.sets.specs.Sets.{full, sub}
 use Rattle.sets.proofs.ListLaws.{below-of}
 use Rattle.link_order.specs.Order.{sortLinks}
 use Rattle.link_order.proofs.Sorted.{sort-length}
-use Rattle.part_names.specs.Names.{isName, eightAt}
-use Rattle.part_names.proofs.Form.{all-names, each-name, eight-inside}
+use Rattle.part_names.specs.Names.{eightAt, AllDiffer}
+use Rattle.part_names.proofs.Form.{names-again, names-distinct, eight-inside}
 use Rattle.sheet.specs.declared.Checked.{Checked}
 use Rattle.sheet.specs.Sheet.{headLength, parts, listOf, linksOf, checkSheet}
 use Rattle.sheet.specs.Network.{Network}
@@ -65,8 +65,8 @@ module _ (d : List ℕ) (e : checkDump d ≡ accepted) where
   dump-named = record {
     count = front-count d (dump-front d e);
     long = names-long;
-    form = all-names (λ q. eightAt (dumpNames d) (8 * q)) (λ q. 0) (dumpParts d)
-        (λ q h. ap isName (eight-inside d 8 (8 * dumpParts d) (8 * q) (omega arith)) ∙ each-name (dumpName d) dumpNameAt (dumpParts d) (dump-names d e) q h);
+    passed = names-again (dumpName d) (λ q. eightAt (dumpNames d) (8 * q)) dumpNameAt (λ q. 0) (dumpParts d)
+        (λ q h. sym (eight-inside d 8 (8 * dumpParts d) (8 * q) (omega arith))) (dump-names d e);
   }
 
   module _ (b : Bytes d) where
@@ -149,3 +149,7 @@ module _ (d : List ℕ) (b : Bytes d) (out out′ : List ℕ) (w : Answer) (c : 
       let g = write-read net (made-held (dumpNames d) (linksFrom d) (dumpParts d) (dump-named d ok) (dump-proper d ok b)) out out′ w c wrote said old new r read
       (ap₂ (λ (p m : ℕ). roomFor p m old) net-parts net-links ∙ room) in
       (g .0 ∙ ap₂ holds net-parts net-links, g .1)
+
+  -- no two names of a dump that a sheet is made from are equal
+  pub dump-distinct : AllDiffer (dumpName d) (dumpParts d)
+  dump-distinct = names-distinct (dumpName d) dumpNameAt (dumpParts d) (dump-names d ok)

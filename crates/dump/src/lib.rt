@@ -133,17 +133,13 @@ fn front(d: &[u8]) -> Tried
     answers::then(mark, answers::then(version, answers::then(length, count)))
 }
 
-// 5, names in order.
+// 5, then 21, names in order.
 fn names(d: &[u8], p: usize) -> Tried
     requires { ⌜ (p < 256) × (dumpNameAt p ≤ length (now d)) ⌝ }
     ensures { λ r. ⌜ verdict r ≡ checkNames (dumpName (now (d .entry))) dumpNameAt p ⌝ }
 {
     let end = 8 + 8 * p;
-    let q = part_names::bad_name(&d[8..end], p);
-    if q < p {
-        return Tried::Stop(5, 8 + 8 * q);
-    }
-    Tried::Pass
+    part_names::test(&d[8..end], p, 8, 8)
 }
 
 // 18, rows in order: those of the first n.
@@ -228,7 +224,7 @@ fn write_counts(names: &[u8], p: usize, counts: &[u16], out: &mut [u8]) -> Answe
     sheet_writer::write(names, &lower[..m], &higher[..m], &weights[..m], out)
 }
 
-// Writes the sheet made from a dump to the start of out: 17, 4, 5, 18, then 16. The count is that of the bytes.
+// Writes the sheet made from a dump to the start of out: 17, 4, 5, 21, 18, then 16. The count is that of the bytes.
 pub fn sheet(dump: &[u8], out: &mut [u8]) -> Answer
     ensures { λ r. ⌜ MakeMeets (now (dump .entry)) (now (out .entry)) r (now (out .exit)) ⌝ }
 {

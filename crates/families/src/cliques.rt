@@ -13,15 +13,11 @@ pub enum Clique {
     Unknown,
 }
 
-// The one part of p with this name; that there is none, or more than one, is told.
+// The part of p with this name; that there is none is told.
 fn part(s: &[u8], p: usize, word: &[u8]) -> Named {
-    let q = find(s, word, 0, p);
+    let q = find(s, word, p);
     if p <= q {
         error_of(b"no part is called ", word);
-        return Named::Nobody;
-    }
-    if find(s, word, q + 1, p) < p {
-        error_of(b"two parts are called ", word);
         return Named::Nobody;
     }
     Named::Part(q)

@@ -26,12 +26,12 @@ fn in_order(a: usize, b: usize, weight: u16) -> Typed {
 pub fn typed_link(line: &[u8], parts: &[u8]) -> Typed {
     let p = part_count(parts);
     let one = words::word(line, 1);
-    let a = find(parts, one, 0, p);
+    let a = find(parts, one, p);
     if p <= a {
         return unknown(one);
     }
     let other = words::word(line, 2);
-    let b = find(parts, other, 0, p);
+    let b = find(parts, other, p);
     if p <= b {
         return unknown(other);
     }

@@ -1,10 +1,8 @@
 // The parts typed so far: a sheet with their names and no link, all zeros before the first.
 use crate::replies::count;
 use crate::replies::refused;
-use crate::replies::say_of;
 use answers::Answer;
 use report::NAMES;
-use report::find;
 use sheet::part_count;
 
 // The name's bytes in its eight. A longer name is left out: the writer refuses the spaces as it does every wrong name.
@@ -14,7 +12,7 @@ fn put_name(slot: &mut [u8], name: &[u8]) {
     }
 }
 
-// Writes the sheet again with one name more, by way of a list of names: 4, 5.
+// Writes the sheet again with one name more, by way of a list of names: 4, 5, 21.
 fn write_with(name: &[u8], names: &mut [u8], sheet: &mut [u8]) -> Answer {
     let at = 8 * part_count(sheet);
     if names.len() < at + 8 {
@@ -29,17 +27,8 @@ fn write_with(name: &[u8], names: &mut [u8], sheet: &mut [u8]) -> Answer {
     sheet_writer::write(&names[0..at + 8], &none, &none, &none, sheet)
 }
 
-// Whether a part has this name.
-fn is_known(sheet: &[u8], name: &[u8]) -> bool {
-    let p = part_count(sheet);
-    find(sheet, name, 0, p) < p
-}
-
 // One part more.
 pub fn add(name: &[u8], sheet: &mut [u8]) -> bool {
-    if is_known(sheet, name) {
-        return say_of(b"there is a part called ", name);
-    }
     let mut names = [b' '; NAMES + 8];
     match write_with(name, &mut names, sheet) {
         Answer::Count(_) => count(part_count(sheet), b" part"),

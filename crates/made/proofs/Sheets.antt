@@ -71,7 +71,7 @@ names-small names p n i = go (lt-or-le i (8 * p))
         let j = i % 8 in
         let h : q < p = omega arith in
         let s : 8 * q + j ≡ i = omega arith in
-        let small = name-small (eightAt names (8 * q)) j (each-name (λ r. eightAt names (8 * r)) (λ r. 0) p (n .form) q h) in
+        let small = name-small (eightAt names (8 * q)) j (each-name (λ r. eightAt names (8 * r)) (λ r. 0) p (n .passed) q h) in
         let e : getD (eightAt names (8 * q)) j 0 ≡ getD names i 0 =
         getD-take 8 (drop (8 * q) names) j 0 (omega arith) ∙ getD-drop (8 * q) names j 0 ∙ ap (λ (k : ℕ). getD names k 0) s in
         omega (arith, small, e)
@@ -141,7 +141,7 @@ module _ (names : List ℕ) (K : List Link) (p : ℕ) (n : Named names p) (ok : 
 
   named : checkNames (λ q. eightAt (net names K .names) (8 * q)) (λ q. 0) (partsOf (net names K)) ≡ accepted
   unfolding madeNetwork
-  named = ap (checkNames (λ q. eightAt names (8 * q)) (λ q. 0)) count ∙ n .form
+  named = ap (checkNames (λ q. eightAt names (8 * q)) (λ q. 0)) count ∙ n .passed
 
   -- the writer accepts it
   pub made-accepted : checkNetwork (madeNetwork names K) ≡ accepted

@@ -65,11 +65,11 @@ pub record Proper (p : ℕ) (K : List Link) : Type 0 where
 
 -- ---- names, the network and its sheet
 
--- the bytes of p names, for a part count of 1 to 64
+-- the bytes of p names that pass 5 and 21, for a part count of 1 to 64
 pub record Named (names : List ℕ) (p : ℕ) : Type 0 where
   pub count : narrowCount p ≡ true
   pub long : length names ≡ 8 * p
-  pub form : checkNames (λ q. eightAt names (8 * q)) (λ q. 0) p ≡ accepted
+  pub passed : checkNames (λ q. eightAt names (8 * q)) (λ q. 0) p ≡ accepted
 
 -- the network of names and links, in the order of link_order
 unfoldable pub madeNetwork : List ℕ → List Link → Network

@@ -157,6 +157,8 @@ fn groups() -> [u8; 8332] {
         let low = (i / 64) as u8;
         let high = (i % 64) as u8;
         i += 1;
+        // each part's name begins with a sign of its own
+        s[8 + 8 * high as usize] = 33 + high;
         if low / 3 < high / 3 {
             // always so: the proof counts no links
             if at < 8329 {

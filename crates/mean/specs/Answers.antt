@@ -41,7 +41,7 @@ unfoldable pub isCliqueAt : List ℕ → ℕ → ℕ → ℕ → Bool
 unfolding any family linksOf
 isCliqueAt s k t x = any (eqb x) (family (linksOf s) (parts s) k t)
 
--- 1 to 11, then 13, at t: the tables are zeroed where these pass
+-- the sheet's checks, 10 and 11, then 13, at t: the tables are zeroed where these pass
 unfoldable pub checkClique : List ℕ → ℕ → ℕ → ℕ → Tables → Verdict
 unfolding checkCall isCliqueAt unless _then_
 checkClique s k t c T = checkCall s k T then unless (isCliqueAt s k t c) 13 0

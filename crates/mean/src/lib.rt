@@ -42,7 +42,7 @@ fn is_clique_at(sheet: &[u8], p: usize, m: usize, k: usize, t: u16, clique: Set)
     checks::is_clique(&rows, p, k, clique)
 }
 
-// 1 to 11, then 13, at t. Where they pass, the sheet's part count and link count.
+// The sheet's checks, 10 and 11, then 13, at t. Where they pass, the sheet's part count and link count.
 fn admit(
     sheet: &[u8],
     k: usize,
@@ -165,7 +165,7 @@ fn family_links(
     count_links(sheet, n, k, &covered)
 }
 
-// The mean link weight of the family of a k-clique of a sheet at t: 1 to 11, 13, 15, by the rows of the links alone, then the links of that family. The
+// The mean link weight of the family of a k-clique of a sheet at t: the sheet's checks, 10, 11, 13, 15, by the rows of the links alone, then the links of that family. The
 // tables are zeroed whenever it came as far as 15.
 pub fn of_family(
     sheet: &[u8],

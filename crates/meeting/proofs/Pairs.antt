@@ -37,7 +37,7 @@ sheet-clique s ok m all R rows p k x r e f =
     (omega (arith, e, parts-width s ok))
     ∙ ap (λ (z : ℕ). any (eqb x) (cliques (linksOf s) z k)) e
 
--- ---- the verdict: 1 to 11, then 13
+-- ---- the verdict: the sheet's checks, 10 and 11, then 13
 
 module _ (s : List ℕ) (k a b : ℕ) (T : Tables) where
   pub pair-early : (n x : ℕ) → checkCall s k T ≡ refused n x → checkPair s k a b T ≡ refused n x

@@ -39,7 +39,7 @@ unfoldable pub isClique : List ℕ → ℕ → ℕ → Bool
 unfolding any cliques linksOf
 isClique s k x = any (eqb x) (cliques (linksOf s) (parts s) k)
 
--- 1 to 11, then 13: the tables are zeroed where these pass
+-- the sheet's checks, 10 and 11, then 13: the tables are zeroed where these pass
 unfoldable pub checkPair : List ℕ → ℕ → ℕ → ℕ → Tables → Verdict
 unfolding checkCall isClique unless _then_
 checkPair s k a b T = checkCall s k T then unless (isClique s k a && isClique s k b) 13 0

@@ -29,7 +29,7 @@ fn are_cliques(sheet: &[u8], p: usize, m: usize, k: usize, a: Set, b: Set) -> bo
     checks::is_clique(&rows, p, k, b)
 }
 
-// The checks before 15: 1 to 11, then 13. Where they pass, the sheet's part count and link count.
+// The checks before 15: the sheet's own, 10 and 11, then 13. Where they pass, the sheet's part count and link count.
 pub fn admit(
     sheet: &[u8],
     k: usize,

@@ -106,7 +106,7 @@ fn over_levels(
     Met::Weight(met)
 }
 
-// The meeting weight: 1 to 11, 13, 15. The tables are zeroed whenever it came as far as 15.
+// The meeting weight: the sheet's checks, 10, 11, 13, 15. The tables are zeroed whenever it came as far as 15.
 pub fn meet(
     sheet: &[u8],
     k: usize,

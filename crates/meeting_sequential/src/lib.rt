@@ -73,7 +73,7 @@ fn meet_after(
     }
 }
 
-// The meeting weight: 1 to 11, 13, 15, by the rows of all links alone, then the first links by which both are complete, then one more until they are
+// The meeting weight: the sheet's checks, 10, 11, 13, 15, by the rows of all links alone, then the first links by which both are complete, then one more until they are
 // joined. The tables are zeroed whenever it came as far as 15.
 pub fn meet(
     sheet: &[u8],

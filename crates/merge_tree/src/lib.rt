@@ -5,7 +5,7 @@ ghost use Rattle.merge_tree.specs.OnSheet.{TreeMeets};
 use answers::Answer;
 use sheet::Checked;
 
-// The merge tree of a sheet: 1 to 11, 15, by the rows of the links alone, then 16, by a pass that only counts, then the lines. The tables are zeroed
+// The merge tree of a sheet: its checks, 10, 11, 15, by the rows of the links alone, then 16, by a pass that only counts, then the lines. The tables are zeroed
 // whenever it came as far as 15.
 pub fn lines(
     sheet: &[u8],

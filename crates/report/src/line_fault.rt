@@ -10,7 +10,7 @@ pub fn line_words(fd: i32, number: u8) {
         7 => put(fd, b"the weight is 0"),
         9 => put(fd, b"this pair of parts was given before"),
         101 => put(fd, b"neither \"part NAME\" nor \"link NAME NAME WEIGHT\""),
-        102 => put(fd, b"this name was given before"),
+        21 | 102 => put(fd, b"this name was given before"),
         103 => put(fd, b"a link must name parts that have a part line"),
         104 => put(fd, b"the weight is not a number up to 65535"),
         _ => put(fd, b"too many links"),

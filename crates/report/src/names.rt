@@ -25,14 +25,14 @@ pub fn names(s: &[u8], set: Set) {
     }
 }
 
-// The first part from `from` to before `to` with this name; `to` where none has it.
-pub fn find(s: &[u8], word: &[u8], from: usize, to: usize) -> usize {
-    let mut q = from;
-    while q < to {
+// The part of p with this name; p where none has it. No two have the same.
+pub fn find(s: &[u8], word: &[u8], p: usize) -> usize {
+    let mut q = 0;
+    while q < p {
         if same(name(s, q), word) {
             return q;
         }
         q += 1;
     }
-    to
+    p
 }

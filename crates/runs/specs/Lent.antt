@@ -18,7 +18,7 @@ unfoldable pub level : Tables → Bool
 unfolding sized
 level T = sized (T .sets) (length (T .entries)) && (sized (T .smallest) (length (T .entries)) && sized (T .unions) (length (T .entries)))
 
--- the checks of a call on a sheet before 15, or 13: 1 to 9, then 10 and 11
+-- the checks of a call on a sheet before 15, or 13: the sheet's own, then 10 and 11
 unfoldable pub checkCall : List ℕ → ℕ → Tables → Verdict
 unfolding checkSheet goodK level unless _then_
 checkCall s k T = checkSheet s then unless (goodK k) 10 0 then unless (level T) 11 0

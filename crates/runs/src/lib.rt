@@ -31,7 +31,7 @@ pub fn level(sets: &[u64], entries: &[u32], smallest: &[u64], unions: &[u64]) ->
     sets::sized(sets, n) && (sets::sized(smallest, n) && sets::sized(unions, n))
 }
 
-// The checks of a call on a sheet before 15, or 13: 1 to 9, then 10 and 11. Where they pass, the sheet's part count and link count.
+// The checks of a call on a sheet before 15, or 13: the sheet's own, then 10 and 11. Where they pass, the sheet's part count and link count.
 pub fn admit(
     sheet: &[u8],
     k: usize,
@@ -66,8 +66,8 @@ pub fn clear(sets: &mut [u64], entries: &mut [u32], smallest: &mut [u64], unions
     sets::clear(unions);
 }
 
-// How many links of a checked sheet weigh t or more: they are its first ones, since weights never rise. For sister crates: checks 1 to 9 show what is
-// required.
+// How many links of a checked sheet weigh t or more: they are its first ones, since weights never rise. For sister crates: the sheet's checks show
+// what is required.
 pub fn heavy(sheet: &[u8], m: usize, t: u16) -> usize
     requires { ⌜ (checkSheet (now sheet) ≡ accepted) × (m ≡ links (now sheet)) ⌝ }
     ensures { λ r. ⌜ (take r (linksOf (now (sheet .entry))) ≡ heavy t (linksOf (now (sheet .entry)))) × (r ≤ m) ⌝ }
@@ -83,7 +83,7 @@ pub fn heavy(sheet: &[u8], m: usize, t: u16) -> usize
     j
 }
 
-// The rows of neighbours of the first n links of a checked sheet. For sister crates: checks 1 to 9 show what is required.
+// The rows of neighbours of the first n links of a checked sheet. For sister crates: the sheet's checks show what is required.
 pub fn rows_of(sheet: &[u8], n: usize) -> Rows
     requires { ⌜ (checkSheet (now sheet) ≡ accepted) × (n ≤ links (now sheet)) ⌝ }
     ensures { λ r. ⌜ r ≡ rowsWith noRows (take n (linksOf (now (sheet .entry)))) ⌝ }
@@ -99,7 +99,7 @@ pub fn rows_of(sheet: &[u8], n: usize) -> Rows
 }
 
 // Whether there are slots enough for the first n links of a checked sheet: 15, by their rows of neighbours alone, before a table is written. For sister
-// crates: checks 1 to 9 show what is required of the sheet and its part count p, 10 of k.
+// crates: the sheet's checks show what is required of it and its part count p, 10 of k.
 pub fn has_slots(sheet: &[u8], n: usize, p: usize, k: usize, entries: &[u32]) -> bool
     requires { ⌜ (checkSheet (now sheet) ≡ accepted) × (n ≤ links (now sheet)) × (p ≡ parts (now sheet)) × (2 ≤ k) ⌝ }
     ensures { λ r. ⌜ r ≡ enough (length (now (entries .entry))) (slots (parts (now (sheet .entry))) k (cliques (take n (linksOf (now (sheet .entry)))) (parts (now (sheet .entry))) k)) ⌝ }
@@ -132,7 +132,7 @@ pub fn take_link(
     n
 }
 
-// The links from `from` on and below `to` of a checked sheet, one after the other. For sister crates: checks 1 to 9 show what is required of the sheet,
+// The links from `from` on and below `to` of a checked sheet, one after the other. For sister crates: the sheet's checks show what is required of it,
 // 10 of k, 11 and the count for 15 of the used slots.
 pub fn take_links(
     sheet: &[u8],

@@ -11,7 +11,7 @@ ghost use Rattle.runs.specs.OnSheet.{RunLists};
 use answers::Answer;
 
 // The listing of the first n links of an admitted sheet, in tables that it leaves anyhow: 15, by the rows of the links alone, then the links, then 16. For
-// sister crates: checks 1 to 11 show what is required.
+// sister crates: the sheet's checks, 10 and 11 show what is required.
 pub fn list(
     sheet: &[u8],
     n: usize,

@@ -8,7 +8,7 @@ use native.Mathlib.Omega.{arith}
 use lib.Dec.{ltb, eqb}
 use lib.ListN.{length, getD, length-append}
 use borrow.Author.Tests.{ltb-true, ltb-false, lt-ltb, le-ltb, eq-eqb, eqb-true, not-true}
-use Rattle.sets.specs.Lists.{_∈_, any, all, keep, eachTwo, placed, sorted, from, below}
+use Rattle.sets.specs.Lists.{_∈_, any, all, keep, eachTwo, placed, sorted, from, below, same}
 use Rattle.sets.proofs.Tests.{never, split, and-intro, and-left, and-right, or-left, or-right, or-cases, lt-or-le, not-so}
 
 -- l has each member of m
@@ -157,6 +157,11 @@ module _ {A : Type 0} where
   unfolding all
   all-more f [] x = and-true (f x)
   all-more f (y ∷ l) x = ap (λ (b : Bool). f y && b) (all-more f l x) ∙ sym (and-assoc (f y) (all f l) (f x))
+
+  pub any-same : (f g : A → Bool) (l : List A) → ((x : A) → x ∈ l → f x ≡ g x) → any f l ≡ any g l
+  unfolding any
+  any-same f g [] h = refl
+  any-same f g (x ∷ l) h = ap₂ _||_ (h x (List·Memᴰ·head refl)) (any-same f g l (λ y m. h y (List·Memᴰ·tail m)))
 
   pub any-more : (f : A → Bool) (l : List A) (x : A) → any f (l ++ (x ∷ [])) ≡ any f l || f x
   unfolding any
@@ -736,3 +741,25 @@ map-at f (x ∷ l) (suc j) d c h = map-at f l j d c (omega arith)
 pub member-length : {A : Type 0} {x : A} (l : List A) → x ∈ l → 1 ≤ length l
 member-length [] m = absurd (List·Memᴰ·not-nil m)
 member-length (y ∷ l) m = omega arith
+
+-- the test passes at each two places
+pub eachTwo-places : {A : Type 0} (f : A → A → Bool) (l : List A) (d : A) → eachTwo f l ≡ true → (q r : ℕ) → q < r → r < length l → f (getD l q d) (getD l r d) ≡ true
+unfolding eachTwo
+eachTwo-places f [] d t q r h k = absurd (omega arith)
+eachTwo-places f (x ∷ l) d t q zero h k = absurd (omega arith)
+eachTwo-places f (x ∷ l) d t zero (suc r) h k = all-of (f x) l (and-left (all (f x) l) (eachTwo f l) t) (getD-member l r d (omega arith))
+eachTwo-places f (x ∷ l) d t (suc q) (suc r) h k = eachTwo-places f l d (and-right (all (f x) l) (eachTwo f l) t) q r (omega arith) (omega arith)
+
+-- ---- lists of numbers that are the same
+
+pub same-self : (l : List ℕ) → same l l ≡ true
+unfolding same
+same-self [] = refl
+same-self (b ∷ l) = and-intro (eqb b b) _ (eq-eqb b b refl) (same-self l)
+
+pub same-of : (a b : List ℕ) → same a b ≡ true → a ≡ b
+unfolding same
+same-of [] [] e = refl
+same-of [] (c ∷ b) e = never false e refl
+same-of (x ∷ a) [] e = never false e refl
+same-of (x ∷ a) (c ∷ b) e = ap₂ _∷_ (eqb-true x c (and-left (eqb x c) (same a b) e)) (same-of a b (and-right (eqb x c) (same a b) e))

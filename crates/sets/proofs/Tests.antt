@@ -1,8 +1,8 @@
 -- Tests, as equations with true and false. Assumes nothing.
 use mathlib.Core.Bool.{Bool, true, false, true≢false, false≢true, cond, not, _&&_, _||_}
-use mathlib.Core.Path.{_≡_, refl, sym, ap}
+use mathlib.Core.Path.{_≡_, refl, sym, ap, subst}
 use mathlib.Core.Logic.{_⊎_, inl, inr}
-use Prim.Native.Nat.{ℕ, _≤_, _<_}
+use Prim.Native.Nat.{ℕ, _+_, _≤_, _<_}
 use native.Mathlib.Omega.{arith}
 use borrow.Author.Tests.{ltb-true, ltb-false, eqb-true, eqb-false}
 use lib.Dec.{eqb, ltb}
@@ -85,6 +85,14 @@ same-or-not a b = go (eq-or-ne a b)
     go : (a ≡ b) ⊎ (eqb a b ≡ false) → (a ≡ b) ⊎ (a ≡ b → ⊥)
     go (inl e) = inl e
     go (inr e) = inr (eqb-false a b e)
+
+-- what holds below q and at q holds below q + 1
+pub one-more : (P : ℕ → Type 0) (q : ℕ) → ((i : ℕ) → i < q → P i) → P q → (i : ℕ) → i < q + 1 → P i
+one-more P q h k i l = go (same-or-not i q)
+  where
+    go : (i ≡ q) ⊎ (i ≡ q → ⊥) → P i
+    go (inl e) = subst P (sym e) k
+    go (inr n) = h i (omega arith)
 
 -- ---- what a test that is known decides
 

@@ -5,18 +5,21 @@ use Prim.Native.Nat.{ℕ}
 use Rattle.answers.specs.Verdict.{accepted, refused}
 use Rattle.sheet.specs.Sheet.{checkSheet}
 
--- the name A, a head, and a sheet of three parts with these bytes of links
-abbrev pub name : List ℕ
-name = 65 ∷ 32 ∷ 32 ∷ 32 ∷ 32 ∷ 32 ∷ 32 ∷ 32 ∷ []
+-- a name of one letter, a head, and sheets of three parts with these bytes of links: the parts A, B and C, or any three
+abbrev pub name : ℕ → List ℕ
+name b = b ∷ 32 ∷ 32 ∷ 32 ∷ 32 ∷ 32 ∷ 32 ∷ 32 ∷ []
 
 abbrev pub headOf : ℕ → ℕ → List ℕ
 headOf p m = 80 ∷ 76 ∷ 83 ∷ 0 ∷ 1 ∷ p ∷ 0 ∷ m ∷ []
 
+abbrev pub threeOf : List ℕ → List ℕ → List ℕ → ℕ → List ℕ → List ℕ
+threeOf a b c m l = headOf 3 m ++ a ++ b ++ c ++ l
+
 abbrev pub three : ℕ → List ℕ → List ℕ
-three m l = headOf 3 m ++ name ++ name ++ name ++ l
+three m l = threeOf (name 65) (name 66) (name 67) m l
 
 -- one part and no link, 16 bytes, accepted
-pub sixteen : checkSheet (headOf 1 0 ++ name) ≡ accepted
+pub sixteen : checkSheet (headOf 1 0 ++ name 65) ≡ accepted
 unfolding checkSheet
 sixteen = refl
 
@@ -30,7 +33,7 @@ pub count-zero : checkSheet (headOf 0 0) ≡ refused 4 5
 unfolding checkSheet
 count-zero = refl
 
-pub length-first : checkSheet (headOf 0 0 ++ name) ≡ refused 3 16
+pub length-first : checkSheet (headOf 0 0 ++ name 65) ≡ refused 3 16
 unfolding checkSheet
 length-first = refl
 
@@ -46,3 +49,23 @@ eight-nine = refl
 pub first-link : checkSheet (three 2 (0 ∷ 1 ∷ 0 ∷ 0 ∷ 2 ∷ 1 ∷ 0 ∷ 5 ∷ [])) ≡ refused 7 32
 unfolding checkSheet
 first-link = refl
+
+-- 21 at the later of two equal names, before the first link
+pub again : checkSheet (threeOf (name 65) (name 66) (name 65) 1 (1 ∷ 0 ∷ 0 ∷ 0 ∷ [])) ≡ refused 21 24
+unfolding checkSheet
+again = refl
+
+-- of three equal names the second
+pub thrice : checkSheet (threeOf (name 65) (name 65) (name 65) 0 []) ≡ refused 21 16
+unfolding checkSheet
+thrice = refl
+
+-- a bad form behind a repeated name: 5 comes first
+pub form-first : checkSheet (threeOf (name 65) (name 65) (name 32) 0 []) ≡ refused 5 24
+unfolding checkSheet
+form-first = refl
+
+-- names that differ in the last byte alone
+pub last-byte : checkSheet (threeOf (name 65) (65 ∷ 65 ∷ 65 ∷ 65 ∷ 65 ∷ 65 ∷ 65 ∷ 65 ∷ []) (65 ∷ 65 ∷ 65 ∷ 65 ∷ 65 ∷ 65 ∷ 65 ∷ 66 ∷ []) 0 []) ≡ accepted
+unfolding checkSheet
+last-byte = refl

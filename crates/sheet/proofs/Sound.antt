@@ -1,4 +1,4 @@
--- What an accepted sheet has: a right head and legal links. Assumes nothing.
+-- What an accepted sheet has: a right head, distinct names and legal links. Assumes nothing.
 use mathlib.Core.Path.{_≡_}
 use mathlib.Core.Bool.{true}
 use mathlib.Core.List.{List}
@@ -10,7 +10,8 @@ use Rattle.percolation.specs.Links.{Link}
 use Rattle.percolation.specs.Ranges.{narrowCount}
 use Rattle.percolation.specs.Steps.{checkLink, legal}
 use Rattle.percolation.proofs.Accepted.{legal-checks, checks-legal}
-use Rattle.part_names.specs.Names.{checkNames}
+use Rattle.part_names.specs.Names.{checkNames, AllDiffer}
+use Rattle.part_names.proofs.Form.{names-distinct}
 use Rattle.sheet.specs.Sheet.{parts, links, nameAt, linkAt, nameOf, listOf, linkOf, linksOf, hasMark, hasVersion, hasLength, checkHead, checkLinkAt, checkSheet}
 use Rattle.sheet.proofs.Lists.{listOf-none, listOf-more}
 use Rattle.sheet.proofs.Heading.{head-length, head-count}
@@ -41,6 +42,10 @@ module _ (s : List ℕ) (e : checkSheet s ≡ accepted) where
 
   pub sheet-names : checkNames (nameOf s) (nameAt s) (parts s) ≡ accepted
   sheet-names = then-left (checkNames (nameOf s) (nameAt s) (parts s)) (inOrder (checkLinkAt s) (links s)) past-head
+
+  -- no two parts have one name
+  pub sheet-distinct : AllDiffer (nameOf s) (parts s)
+  sheet-distinct = names-distinct (nameOf s) (nameAt s) (parts s) sheet-names
 
   pub sheet-links : inOrder (checkLinkAt s) (links s) ≡ accepted
   sheet-links = then-right (checkNames (nameOf s) (nameAt s) (parts s)) (inOrder (checkLinkAt s) (links s)) past-head

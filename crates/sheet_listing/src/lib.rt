@@ -48,7 +48,7 @@ fn run(
     }
 }
 
-// The listing of a sheet at threshold t: 1 to 11, then 15 and 16 by the method's run. The tables are zeroed whenever it came as far as 15.
+// The listing of a sheet at threshold t: the sheet's checks, 10 and 11, then 15 and 16 by the method's run. The tables are zeroed whenever it came as far as 15.
 pub fn listing(
     method: Method,
     sheet: &[u8],

@@ -1,4 +1,5 @@
--- The round trips over what the contracts of `read` and `write` cite: a sheet read and written again, and a network written and read again. Assumes nothing.
+-- The round trips over what the contracts of `read` and `write` cite: a sheet read and written again, and a network written and read again; and that what
+-- either accepts has distinct names. Assumes nothing.
 use mathlib.Core.Path.{_≡_, refl, sym, ap, ap₂, _∙_, subst}
 use mathlib.Core.Bool.{true}
 use mathlib.Core.List.{List, _++_}
@@ -12,14 +13,15 @@ use Rattle.answers.specs.declared.Answer.{Answer}
 use Rattle.answers.specs.Verdict.{Verdict, accepted, written}
 use Rattle.answers.specs.Answers.{counts, says}
 use Rattle.answers.proofs.Laws.{then-left, then-both, last-go, say-accepted, said-count, written-accepted}
+use Rattle.part_names.specs.Names.{AllDiffer}
 use Rattle.sheet.specs.declared.Checked.{Checked}
 use Rattle.sheet.specs.declared.Checked.the-variants.{Fine}
 use Rattle.sheet.specs.Sheet.{parts, links, checkSheet}
 use Rattle.sheet.specs.Network.{Network, network, networkOf}
-use Rattle.sheet_writer.specs.Writing.{partsOf, linksIn, sheetOf, checkNetwork, checkWrite, WriteMeets}
+use Rattle.sheet_writer.specs.Writing.{partsOf, linksIn, eightIn, sheetOf, checkNetwork, checkWrite, WriteMeets}
 use Rattle.sheet_reader.specs.Reading.{roomFor, checkRead, writtenNetwork, ReadMeets}
 use Rattle.sheet.specs.Answers.{holds, sheetSays, sheetSay}
-use Rattle.sheet_writer.proofs.Sound.{network-few}
+use Rattle.sheet_writer.proofs.Sound.{network-few, network-distinct}
 use Rattle.sheet.proofs.Sound.{sheet-length}
 use Rattle.sheet.proofs.Heading.{length-is}
 use Rattle.sheet.proofs.Said.{said-holds}
@@ -64,21 +66,29 @@ read-passes : (s : List ℕ) (old : Network) → checkSheet s ≡ accepted → r
 unfolding checkRead
 read-passes s old ok h = then-both (checkSheet s) _ ok (last-go (roomFor (parts s) (links s) old) 16 0 h)
 
+-- what `read` left in the lists is the sheet's network
+read-front : (s : List ℕ) → Bytes s → (old new : Network) (r : Checked) (p m : ℕ) → ReadMeets s old r new → r ≡ Fine p m
+    → (checkSheet s ≡ accepted) × (p ≡ partsOf (networkOf s)) × (front p m new ≡ networkOf s)
+unfolding checkRead
+read-front s b old new r p m d e =
+    let a = said-holds (checkRead s old) s p m (sym (ap sheetSays e) ∙ d .answer) in
+    let ok = then-left (checkSheet s) _ (a .0) in
+    let net = sheet-again s b ok .0 in
+    let t = read-twin s (length-is _ s (sheet-length s ok)) in
+    let full = filled (checkRead s old) (networkOf s) old new (a .0) net (d .lists) in
+    let count = a .1 ∙ t .count in
+    (ok, count, ap₂ (λ (x y : ℕ). front x y new) count (a .2 ∙ t .number) ∙ front-back (networkOf s) old new net full)
+
 -- ---- the round trips
 
 -- A sheet that `read` accepts, written again from the lists that it filled: the same bytes.
 pub read-write : (s : List ℕ) → Bytes s → (old new : Network) (r : Checked) (p m : ℕ) → ReadMeets s old r new → r ≡ Fine p m
     → (out out′ : List ℕ) (w : Answer) → WriteMeets (front p m new) out w out′ → length s ≤ length out
     → (says w ≡ counts (length s)) × (out′ ≡ s ++ drop (length s) out)
-unfolding checkRead
 read-write s b old new r p m d e out out′ w d′ room =
-    let a = said-holds (checkRead s old) s p m (sym (ap sheetSays e) ∙ d .answer) in
-    let ok = then-left (checkSheet s) _ (a .0) in
-    let again = sheet-again s b ok in
-    let t = read-twin s (length-is _ s (sheet-length s ok)) in
-    let full = filled (checkRead s old) (networkOf s) old new (a .0) (again .0) (d .lists) in
-    let same = ap₂ (λ (x y : ℕ). front x y new) (a .1 ∙ t .count) (a .2 ∙ t .number) ∙ front-back (networkOf s) old new (again .0) full in
-    let g = subst (λ (n : Network). WriteMeets n out w out′) same d′ in
+    let f = read-front s b old new r p m d e in
+    let again = sheet-again s b (f .0) in
+    let g = subst (λ (n : Network). WriteMeets n out w out′) (f .2) d′ in
     let v = write-passes (networkOf s) (length out) (again .0) (omega (arith, ap length (again .1))) in (
       g .answer ∙ say-accepted (checkWrite (networkOf s) (length out)) (length (sheetOf (networkOf s))) v ∙ ap (λ (l : List ℕ). counts (length l)) (again .1),
       g .bytes ∙ written-accepted (checkWrite (networkOf s) (length out)) (sheetOf (networkOf s)) out v
@@ -103,3 +113,19 @@ write-read n held out out′ w c d e old new r d′ room =
       g .answer ∙ ap (λ (x : Verdict). sheetSay x s) v ∙ ap₂ holds (t .count) (t .number),
       filled (checkRead s old) n old new v ok (g .lists ∙ ap (λ (x : Network). writtenNetwork (checkRead s old) x old) (again .1)),
     )
+
+-- ---- no two names are equal
+
+-- of those that `read` leaves
+pub read-distinct : (s : List ℕ) → Bytes s → (old new : Network) (r : Checked) (p m : ℕ) → ReadMeets s old r new → r ≡ Fine p m
+    → AllDiffer (eightIn (front p m new)) p
+read-distinct s b old new r p m d e =
+    let f = read-front s b old new r p m d e in
+    subst (λ (n : Network). AllDiffer (eightIn n) p) (sym (f .2))
+    (subst (AllDiffer (eightIn (networkOf s))) (sym (f .1)) (network-distinct (networkOf s) (sheet-again s b (f .0) .0)))
+
+-- of those that `write` is given where it accepts
+pub write-distinct : (n : Network) (out out′ : List ℕ) (w : Answer) (c : ℕ) → WriteMeets n out w out′ → says w ≡ counts c → AllDiffer (eightIn n) (partsOf n)
+unfolding checkWrite
+write-distinct n out out′ w c d e =
+    network-distinct n (then-left (checkNetwork n) _ (said-count (checkWrite n (length out)) (length (sheetOf n)) c (sym e ∙ d .answer) .0))

@@ -1,4 +1,4 @@
--- What an accepted network has: a right shape, legal links, and so no more than 4,096 of them. Assumes nothing.
+-- What an accepted network has: a right shape, distinct names, legal links, and so no more than 4,096 of them. Assumes nothing.
 use mathlib.Core.Path.{_≡_}
 use mathlib.Core.Bool.{true}
 use Prim.Native.Nat.{_%_, _≤_}
@@ -10,7 +10,8 @@ use Rattle.percolation.specs.Ranges.{narrowCount}
 use Rattle.percolation.specs.Steps.{legal}
 use Rattle.percolation.proofs.Ranges.{narrow-count}
 use Rattle.percolation.proofs.Accepted.{legal-most}
-use Rattle.part_names.specs.Names.{checkNames}
+use Rattle.part_names.specs.Names.{checkNames, AllDiffer}
+use Rattle.part_names.proofs.Form.{names-distinct}
 use Rattle.sheet.specs.Sheet.{listOf}
 use Rattle.sheet.specs.Network.{Network}
 use Rattle.sheet.proofs.Lists.{listOf-length}
@@ -42,6 +43,10 @@ module _ (n : Network) (e : checkNetwork n ≡ accepted) where
 
   pub network-names : checkNames (eightIn n) (λ q. 0) (partsOf n) ≡ accepted
   network-names = then-left (checkNames (eightIn n) (λ q. 0) (partsOf n)) (inOrder (checkLinkIn n) (linksIn n)) past4
+
+  -- no two parts have one name
+  pub network-distinct : AllDiffer (eightIn n) (partsOf n)
+  network-distinct = names-distinct (eightIn n) (λ q. 0) (partsOf n) network-names
 
   pub network-links : inOrder (checkLinkIn n) (linksIn n) ≡ accepted
   network-links = then-right (checkNames (eightIn n) (λ q. 0) (partsOf n)) (inOrder (checkLinkIn n) (linksIn n)) past4

@@ -11,11 +11,11 @@ use Rattle.percolation.specs.Links.{Link}
 use Rattle.percolation.specs.Ranges.{narrowCount}
 use Rattle.percolation.specs.Steps.{legal}
 use Rattle.sheet.specs.Sheet.{parts, links, headLength, nameAt, nameOf, listOf, linkOf, linksOf, checkHead, checkSheet}
-use Rattle.part_names.specs.Names.{eightAt, isName, checkNames}
+use Rattle.part_names.specs.Names.{eightAt, checkNames}
 use Rattle.sheet.specs.Network.{Network, network, networkOf}
 use Rattle.sheet_writer.specs.Writing.{partsOf, linksIn, eightIn, linkIn, hasShape, checkNetwork}
 use Rattle.sheet.proofs.Lists.{listOf-length, listOf-ext, listOf-at, listOf-map}
-use Rattle.part_names.proofs.Form.{all-names, each-name, eight-inside}
+use Rattle.part_names.proofs.Form.{names-again, eight-inside}
 use Rattle.sheet_writer.proofs.Shape.{shape-parts}
 use Rattle.sheet.proofs.Sound.{sheet-names, sheet-count, sheet-legal, sheet-passes}
 use Rattle.sheet_writer.proofs.Sound.{network-names, network-legal, network-passes}
@@ -44,14 +44,11 @@ module _ (s : List ℕ) (n : Network) (t : Twin s n) where
   twin-eight q h = sym (eight-inside s headLength (8 * parts s) (8 * q) (omega arith)) ∙ ap (λ (l : List ℕ). eightAt l (8 * q)) (t .named)
 
   twin-in : checkNames (nameOf s) (nameAt s) (parts s) ≡ accepted → checkNames (eightIn n) (λ q. 0) (partsOf n) ≡ accepted
-  twin-in e =
-      all-names (eightIn n) (λ q. 0) (partsOf n)
-      (λ q h. let l : q < parts s = omega (arith, t .count) in ap isName (sym (twin-eight q l)) ∙ each-name (nameOf s) (nameAt s) (parts s) e q l)
+  twin-in e = ap (checkNames (eightIn n) (λ q. 0)) (sym (t .count)) ∙ names-again (nameOf s) (eightIn n) (nameAt s) (λ q. 0) (parts s) twin-eight e
 
   twin-at : checkNames (eightIn n) (λ q. 0) (partsOf n) ≡ accepted → checkNames (nameOf s) (nameAt s) (parts s) ≡ accepted
   twin-at e =
-      all-names (nameOf s) (nameAt s) (parts s)
-      (λ q h. let l : q < partsOf n = omega (arith, t .count) in ap isName (twin-eight q h) ∙ each-name (eightIn n) (λ q. 0) (partsOf n) e q l)
+      names-again (eightIn n) (nameOf s) (λ q. 0) (nameAt s) (parts s) (λ q h. sym (twin-eight q h)) (ap (checkNames (eightIn n) (λ q. 0)) (t .count) ∙ e)
 
   pub twin-network : hasShape n ≡ true → checkSheet s ≡ accepted → checkNetwork n ≡ accepted
   twin-network h e =

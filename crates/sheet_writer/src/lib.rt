@@ -56,7 +56,7 @@ fn network_links(names: &[u8], lower: &[u16], higher: &[u16], weights: &[u16]) -
     Tried::Pass
 }
 
-// 3 to 9 of a network.
+// 3 to 9 and 21 of a network.
 fn check_network(names: &[u8], lower: &[u16], higher: &[u16], weights: &[u16]) -> Tried
     ensures { λ r. ⌜ verdict r ≡ checkNetwork (network (now (names .entry)) (now (lower .entry)) (now (higher .entry)) (now (weights .entry))) ⌝ }
 {
@@ -67,8 +67,8 @@ fn check_network(names: &[u8], lower: &[u16], higher: &[u16], weights: &[u16]) -
     if !checks::narrow_count(p) {
         return Tried::Stop(4, 0);
     }
-    if part_names::bad_name(names, p) < p {
-        return Tried::Stop(5, 0);
+    if let Tried::Stop(n, a) = part_names::test(names, p, 0, 0) {
+        return Tried::Stop(n, a);
     }
     network_links(names, lower, higher, weights)
 }
@@ -126,7 +126,7 @@ fn put_sheet(names: &[u8], lower: &[u16], higher: &[u16], weights: &[u16], out: 
     put_links(lower, higher, weights, &mut out[at..]);
 }
 
-// Writes a network as a sheet, to the start of out: 3 to 9, then 16, all with place 0. The count is that of the bytes.
+// Writes a network as a sheet, to the start of out: 3 to 9 and 21, then 16, all with place 0. The count is that of the bytes.
 pub fn write(names: &[u8], lower: &[u16], higher: &[u16], weights: &[u16], out: &mut [u8]) -> Answer
     ensures { λ r. ⌜ WriteMeets (network (now (names .entry)) (now (lower .entry)) (now (higher .entry)) (now (weights .entry))) (now (out .entry)) r (now (out .exit)) ⌝ }
 {

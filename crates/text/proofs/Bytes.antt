@@ -8,10 +8,8 @@ use native.Mathlib.Numerals.{add-one}
 use lib.Dec.{eqb}
 use lib.ListN.{length, getD, take, drop, drop-of-length-le}
 use lib.Seq.{drop-cons}
-use borrow.Author.Tests.{eq-eqb, eqb-true}
-use Rattle.sets.specs.Lists.{all}
+use Rattle.sets.specs.Lists.{all, same}
 use Rattle.sets.proofs.Tests.{and-intro, and-left, and-right}
-use Rattle.words.specs.Lines.{same}
 
 -- ---- a test of each
 
@@ -38,20 +36,6 @@ same-step l m i h k = rw (add-one, drop-cons l i 0 h, drop-cons m i 0 k)
 pub same-end : (l m : List ℕ) (i : ℕ) → length l ≤ i → length m ≤ i → same (drop i l) (drop i m) ≡ true
 unfolding same
 same-end l m i h k = rw (drop-of-length-le l h, drop-of-length-le m k)
-
-pub same-self : (l : List ℕ) → same l l ≡ true
-unfolding same
-same-self [] = refl
-same-self (b ∷ l) = and-intro (eqb b b) _ (eq-eqb b b refl) (same-self l)
-
-pub same-eq : (l m : List ℕ) → same l m ≡ true → l ≡ m
-unfolding same
-same-eq [] [] e = refl
-same-eq [] (c ∷ m) e = let z : _≡_ {A = ℕ} 0 1 = cc in absurd (omega arith)
-same-eq (b ∷ l) [] e = let z : _≡_ {A = ℕ} 0 1 = cc in absurd (omega arith)
-same-eq (b ∷ l) (c ∷ m) e =
-    let p : b ≡ c = eqb-true b c (and-left (eqb b c) (same l m) e) in
-    let q : l ≡ m = same-eq l m (and-right (eqb b c) (same l m) e) in cc
 
 -- ---- a part of a list
 

@@ -9,15 +9,15 @@ use lib.Dec.{eqb, leb, leb·zero, leb·suc-zero, leb·suc-suc}
 use lib.ListN.{length, getD, take, drop, set, drop-of-length-le, length-append, take-append-drop}
 use lib.Seq.{drop-cons, drop-drop, set-at, append-snoc, take-at, drop-at}
 use borrow.Author.Tests.{le-leb, lt-leb, leb-true, eq-eqb, ne-eqb, not-true}
-use Rattle.sets.specs.Lists.{all}
-use Rattle.sets.proofs.Tests.{no-and, not-so, and-left, and-right, never, or-left}
+use Rattle.sets.specs.Lists.{all, same}
+use Rattle.sets.proofs.Tests.{no-and, not-so, and-intro, and-left, and-right, never, or-left}
 use Rattle.percolation.specs.Ranges.{inRange}
 use Rattle.part_names.specs.Names.{visible}
 use Rattle.part_names.proofs.Form.{visible-range}
-use Rattle.words.specs.Lines.{same, blank}
+use Rattle.words.specs.Lines.{blank}
 use Rattle.text.specs.Reading.{isName, padded, nameBytes, numberOf}
 use Rattle.text.specs.Model.{Held}
-use Rattle.sets.proofs.ListLaws.{all-of, getD-member}
+use Rattle.sets.proofs.ListLaws.{all-of, getD-member, same-self, same-of}
 use Rattle.text.proofs.Bytes.{all-sub}
 
 -- ---- the form of a name
@@ -127,6 +127,13 @@ pad-same (suc n) (c ∷ y) (b ∷ x) h p q =
 -- a slot that holds the name y, against the word x
 pub slot-same : (y x : List ℕ) → isName y ≡ true → all (λ b. not (blank b)) x ≡ true → leb (length x) 8 && same (padded 8 y) (padded 8 x) ≡ same y x
 slot-same y x p q = pad-same 8 y x (name-fits y p .1) (name-plain y p) (unblank-plain x q)
+
+-- two names that are the same when padded are one
+pub padded-once : (y x : List ℕ) → isName y ≡ true → isName x ≡ true → padded 8 y ≡ padded 8 x → y ≡ x
+padded-once y x p q e =
+    same-of y x
+    (sym (pad-same 8 y x (name-fits y p .1) (name-plain y p) (name-plain x q))
+    ∙ and-intro (leb (length x) 8) _ (le-leb (length x) 8 (name-fits x q .1)) (ap (same (padded 8 y)) (sym e) ∙ same-self (padded 8 y)))
 
 -- ---- the bytes of names
 

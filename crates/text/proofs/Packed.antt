@@ -10,9 +10,9 @@ use lib.Seq.{ext-getD, take-at}
 use borrow.Author.Tests.{ltb-true, lt-ltb, le-leb, eqb-false, eq-eqb, not-true}
 use Rattle.answers.specs.Verdict.{Verdict, accepted, refused, unless}
 use Rattle.answers.proofs.Laws.{then-left, then-right, unless-passed}
-use Rattle.sets.specs.Lists.{all, eachTwo}
-use Rattle.sets.proofs.ListLaws.{all-at, any-none, all-more, eachTwo-more, map-at}
-use Rattle.sets.proofs.Tests.{and-intro, and-left, and-right}
+use Rattle.sets.specs.Lists.{any, all, eachTwo, same}
+use Rattle.sets.proofs.ListLaws.{all-at, any-none, all-more, eachTwo-more, eachTwo-places, map-at, same-self}
+use Rattle.sets.proofs.Tests.{never, and-intro, and-left, and-right}
 use Rattle.percolation.specs.Ranges.{inRange, narrowCount}
 use Rattle.percolation.specs.Links.{Link, link, joins, linked}
 use Rattle.percolation.specs.Steps.{goodParts, legal}
@@ -31,18 +31,35 @@ use Rattle.words.specs.Lines.{Line, linesOf, lineSays, Said, silent, partSaid, 
 use Rattle.text.specs.declared.Text.{Text}
 use Rattle.text.specs.declared.Text.the-variants.{Fine}
 use Rattle.text.specs.Reading.{isName, padded, nameBytes, checkPart, moreParts, checkParts, partsAfter, partsOf, known, numberOf, isWeight, value, linkGiven, checkLink, moreLinks, checkLinks, linksAfter, textLinks, checkText, textSays, textSay, TextMeets}
-use Rattle.text.proofs.Names.{bytes-length, bytes-at, held-name}
+use Rattle.text.proofs.Names.{bytes-length, bytes-at, held-name, padded-once}
 use Rattle.text.proofs.Pass1.{more-named}
 use Rattle.text.proofs.LinkLaws.{linked-ends}
 
 -- ---- names
 
-all-named : (n : ℕ) (N : List (List ℕ)) (ls : List Line) → all isName N ≡ true → checkParts n N ls ≡ accepted → all isName (partsAfter N ls) ≡ true
+-- what every line that passes keeps
+after-parts : (P : List (List ℕ) → Type 0) (n : ℕ) → ((N : List (List ℕ)) (a : ℕ) (s : Said) → checkPart n N a s ≡ accepted → P N → P (moreParts N s))
+    → (N : List (List ℕ)) (ls : List Line) → P N → checkParts n N ls ≡ accepted → P (partsAfter N ls)
 unfolding checkParts partsAfter
-all-named n N [] h e = h
-all-named n N (l ∷ ls) h e =
+after-parts P n more N [] h e = h
+after-parts P n more N (l ∷ ls) h e =
     let s = lineSays l in
-    all-named n (moreParts N s) ls (more-named n N (l .place) s (then-left (checkPart n N (l .place) s) _ e) h) (then-right (checkPart n N (l .place) s) _ e)
+    after-parts P n more (moreParts N s) ls (more N (l .place) s (then-left (checkPart n N (l .place) s) _ e) h) (then-right (checkPart n N (l .place) s) _ e)
+
+-- no name is given twice
+abbrev other : List ℕ → List ℕ → Bool
+other m x = not (same x m)
+
+more-once : (n : ℕ) (N : List (List ℕ)) (a : ℕ) (s : Said) → checkPart n N a s ≡ accepted → eachTwo other N ≡ true → eachTwo other (moreParts N s) ≡ true
+unfolding checkPart
+more-once n N a silent e h = h
+more-once n N a (partSaid x) e h =
+    let e2 = then-right (unless (isName x) 5 a) _ e in
+    let e3 = then-right (unless (narrowCount (suc (length N))) 4 a) _ e2 in
+    let new = not-true (any (same x) N) (unless-passed (not (any (same x) N)) 102 a (then-left (unless (not (any (same x) N)) 102 a) _ e3)) in
+    eachTwo-more other N x ∙ and-intro (eachTwo other N) _ h (all-at (λ m. other m x) N (λ m i. ap not (any-none (same x) N new i)))
+more-once n N a (linkSaid x y w) e h = h
+more-once n N a neither e h = h
 
 spaces-form : (n : ℕ) → field.spaces (padded n []) ≡ true
 unfolding field.spaces padded
@@ -136,7 +153,7 @@ textNetwork text =
 module _ (text : List ℕ) (n : ℕ) (t : LinkLists) (ok : checkText text n t ≡ accepted) where
   pub text-named : all isName (partsOf text) ≡ true
   unfolding checkText partsOf all
-  text-named = all-named n [] (linesOf text) refl (then-left (checkParts n [] (linesOf text)) _ ok)
+  text-named = after-parts (λ N. all isName N ≡ true) n (more-named n) [] (linesOf text) refl (then-left (checkParts n [] (linesOf text)) _ ok)
 
   pub text-counted : narrowCount (length (partsOf text)) ≡ true
   unfolding checkText
@@ -165,13 +182,30 @@ module _ (text : List ℕ) (n : ℕ) (t : LinkLists) (ok : checkText text n t �
       eights : eqb (length (nameBytes (partsOf text)) % 8) 0 ≡ true
       eights = eq-eqb (length (nameBytes (partsOf text)) % 8) 0 (omega (arith, bytes-length (partsOf text)))
 
+  text-once : eachTwo other (partsOf text) ≡ true
+  unfolding checkText partsOf eachTwo
+  text-once = after-parts (λ N. eachTwo other N ≡ true) n (more-once n) [] (linesOf text) refl (then-left (checkParts n [] (linesOf text)) _ ok)
+
+  -- name q of the network is the text's, padded
+  name-in : (q : ℕ) → q < length (partsOf text) → net.eightIn (textNetwork text) q ≡ padded 8 (getD (partsOf text) q [])
+  name-in q l = ap (λ (b : List ℕ). take 8 (drop (8 * q) b)) (sym (append-nil (nameBytes (partsOf text)))) ∙ bytes-at (partsOf text) [] q l
+
+  named-at : (q : ℕ) → q < length (partsOf text) → isName (getD (partsOf text) q []) ≡ true
+  named-at q l = held-name (partsOf text) q text-named l
+
+  names-differ : field.AllDiffer (net.eightIn (textNetwork text)) (length (partsOf text))
+  names-differ q r h l e =
+      let x = getD (partsOf text) q [] in
+      let y = getD (partsOf text) r [] in
+      let m : q < length (partsOf text) = omega arith in
+      let one = padded-once x y (named-at q m) (named-at r l) (sym (name-in q m) ∙ e ∙ name-in r l) in
+      never (same y x) (ap (same y) one ∙ same-self y) (not-true (same y x) (eachTwo-places other (partsOf text) [] text-once q r h l))
+
   network-names : field.checkNames (net.eightIn (textNetwork text)) (λ q. 0) (net.partsOf (textNetwork text)) ≡ accepted
-  network-names = all-names (net.eightIn (textNetwork text)) (λ q. 0) (net.partsOf (textNetwork text)) (λ q l. name-at q (omega (arith, parts-same)))
-    where
-      name-at : (q : ℕ) → q < length (partsOf text) → field.isName (net.eightIn (textNetwork text) q) ≡ true
-      name-at q l =
-          ap (λ (b : List ℕ). field.isName (take 8 (drop (8 * q) b))) (sym (append-nil (nameBytes (partsOf text))))
-          ∙ ap field.isName (bytes-at (partsOf text) [] q l) ∙ padded-form (getD (partsOf text) q []) (held-name (partsOf text) q text-named l)
+  network-names =
+      ap (field.checkNames (net.eightIn (textNetwork text)) (λ q. 0)) parts-same
+      ∙ all-names (net.eightIn (textNetwork text)) (λ q. 0) (length (partsOf text))
+      (λ q l. ap field.isName (name-in q l) ∙ padded-form (getD (partsOf text) q []) (named-at q l)) names-differ
 
   link-at : (j : ℕ) → j < length (sortedLinks text) → net.linkIn (textNetwork text) j ≡ getD (sortedLinks text) j (link 0 0 0)
   unfolding net.linkIn

@@ -12,18 +12,19 @@ use borrow.Author.Tests.{le-leb, lt-leb, ne-eqb}
 use Rattle.answers.specs.Verdict.{accepted, refused}
 use Rattle.answers.specs.Answers.{counts}
 use Rattle.answers.proofs.Laws.{stop, go, last-stop, last-go, say-accepted, say-refused, accepted-not}
-use Rattle.sets.specs.Lists.{any, all}
+use Rattle.sets.specs.Lists.{any, all, same}
+use Rattle.sets.proofs.ListLaws.{same-self, same-of}
 use Rattle.sets.proofs.Tests.{iff, split, and-right}
 use Rattle.percolation.specs.Ranges.{inRange, narrowCount}
 use Rattle.part_names.specs.Names.{visible}
 use Rattle.part_names.proofs.Form.{visible-range}
 use Rattle.words.specs.declared.Form.{Form}
-use Rattle.words.specs.Lines.{same, blank, wordsSay, Said, silent, partSaid, linkSaid, neither, formed}
+use Rattle.words.specs.Lines.{blank, wordsSay, Said, silent, partSaid, linkSaid, neither, formed}
 use Rattle.text.specs.declared.Step.{Step}
 use Rattle.text.specs.declared.Step.the-variants.{Count, Fault}
 use Rattle.text.specs.Reading.{isName, padded, nameBytes, numberOf, checkPart, moreParts}
 use Rattle.text.specs.Model.{Held, PartMeets, withNames}
-use Rattle.text.proofs.Bytes.{all-sub, same-self, same-eq}
+use Rattle.text.proofs.Bytes.{all-sub}
 use Rattle.text.proofs.Names.{bytes-more}
 
 -- a name has no blank
@@ -39,7 +40,7 @@ name-unblank x e = all-sub visible (λ b. not (blank b)) x each (and-right (inRa
 -- ---- a name that was given before
 
 same-turn : (x y : List ℕ) → same x y ≡ same y x
-same-turn x y = iff (same x y) (same y x) (λ e. ap (λ (z : List ℕ). same z x) (sym (same-eq x y e)) ∙ same-self x) (λ e. ap (λ (z : List ℕ). same z y) (sym (same-eq y x e)) ∙ same-self y)
+same-turn x y = iff (same x y) (same y x) (λ e. ap (λ (z : List ℕ). same z x) (sym (same-of x y e)) ∙ same-self x) (λ e. ap (λ (z : List ℕ). same z y) (sym (same-of y x e)) ∙ same-self y)
 
 pub number-given : (N : List (List ℕ)) (x : List ℕ) → numberOf N x < length N → any (same x) N ≡ true
 unfolding numberOf any

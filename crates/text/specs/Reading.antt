@@ -6,7 +6,7 @@ use Prim.Native.Nat.{ℕ, zero, suc, _+_, _*_, _-_, min, max}
 use lib.Dec.{eqb, leb, ltb}
 use lib.ListN.{length, drop}
 use Rattle.answers.specs.Verdict.{Verdict, accepted, refused, _then_, unless}
-use Rattle.sets.specs.Lists.{any, all}
+use Rattle.sets.specs.Lists.{any, all, same}
 use Rattle.percolation.specs.Ranges.{inRange, narrowCount}
 use Rattle.percolation.specs.Links.{Link, link, linked}
 use Rattle.part_names.specs.Names.{visible}
@@ -14,7 +14,7 @@ use Rattle.link_order.specs.Order.{LinkLists, hasRoom, withLinks, sortLinks}
 use Rattle.sheet.specs.Answers.{SheetSaid, holds, faulty}
 use Rattle.text.specs.declared.Text.{Text}
 use Rattle.text.specs.declared.Text.the-variants.{Fine, Faulty}
-use Rattle.words.specs.Lines.{same, Line, linesOf, lineSays, Said, silent, partSaid, linkSaid, neither}
+use Rattle.words.specs.Lines.{Line, linesOf, lineSays, Said, silent, partSaid, linkSaid, neither}
 
 -- ---- parts
 

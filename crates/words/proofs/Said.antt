@@ -1,22 +1,16 @@
 -- Laws of what a line's words say, by their number and the first of them. Assumes nothing.
-use mathlib.Core.Path.{_≡_, refl, ap₂}
+use mathlib.Core.Path.{_≡_, refl}
 use mathlib.Core.Bool.{true, false, cond}
 use mathlib.Core.List.{List, [], _∷_}
 use mathlib.Core.Logic.{_⊎_, inl, inr}
 use Prim.Native.Nat.{ℕ, _<_, _≤_}
 use native.Mathlib.Omega.{arith}
-use borrow.Author.Tests.{eqb-true}
 use lib.Dec.{eqb}
 use lib.ListN.{length, getD}
-use Rattle.sets.proofs.Tests.{split, and-left, and-right, never}
-use Rattle.words.specs.Lines.{same, comment, partWord, linkWord, afterPart, afterLink, wordsSay, silent, partSaid, linkSaid, neither}
-
-pub same-of : (a b : List ℕ) → same a b ≡ true → a ≡ b
-unfolding same
-same-of [] [] e = refl
-same-of [] (c ∷ b) e = never false e refl
-same-of (x ∷ a) [] e = never false e refl
-same-of (x ∷ a) (c ∷ b) e = ap₂ _∷_ (eqb-true x c (and-left (eqb x c) (same a b) e)) (same-of a b (and-right (eqb x c) (same a b) e))
+use Rattle.sets.specs.Lists.{same}
+use Rattle.sets.proofs.Tests.{split}
+use Rattle.sets.proofs.ListLaws.{same-of}
+use Rattle.words.specs.Lines.{comment, partWord, linkWord, afterPart, afterLink, wordsSay, silent, partSaid, linkSaid, neither}
 
 -- ---- the first word
 

@@ -11,7 +11,7 @@ pub struct Refused {
     pub place: usize,
 }
 
-const SENTENCES: [&str; 20] = [
+const SENTENCES: [&str; 21] = [
     "mark: under 3 bytes or not PLS",
     "version: under 5 bytes or not 1",
     "length: under 8 bytes or not 8 + 8p + 4m; \
@@ -35,6 +35,7 @@ const SENTENCES: [&str; 20] = [
     "a dump's row has a part not below p",
     "a state with no link to take back",
     "a journal of other than 2,016 entries",
+    "a name equal to an earlier one",
 ];
 
 impl Refused {

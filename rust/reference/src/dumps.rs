@@ -4,7 +4,7 @@ use std::cmp::Reverse;
 
 use crate::fast::parts;
 use crate::network::{Link, Network};
-use crate::sheets::{demand, good_name, good_part_count, pair, Refusal};
+use crate::sheets::{demand, good_names, good_part_count, name_place, pair, Refusal};
 
 /// A dump: the parts' names, and the parts that tripped together in each row.
 #[derive(Clone, Debug, Default, PartialEq, Eq)]
@@ -13,7 +13,7 @@ pub struct Dump {
     pub rows: Vec<u64>,
 }
 
-/// The dump in some bytes, or the first refusal among 17, 4, 5 and 18.
+/// The dump in some bytes, or the first refusal among 17, 4, 5, 21 and 18.
 pub fn parse_dump(bytes: &[u8]) -> Result<Dump, Refusal> {
     let length = bytes.len();
     demand(bytes.starts_with(b"PRD"), 17, 0)?;
@@ -22,18 +22,15 @@ pub fn parse_dump(bytes: &[u8]) -> Result<Dump, Refusal> {
     let (p, n) = (usize::from(bytes[5]), usize::from(pair(&bytes[6..])));
     demand(length == 8 + 8 * p + 8 * n, 17, length)?;
     demand(good_part_count(p), 4, 5)?;
-    let mut dump = Dump::default();
-    for (i, eight) in bytes[8..].chunks(8).enumerate() {
-        let eight: [u8; 8] = eight.try_into().expect("eight bytes");
-        let place = 8 + 8 * i;
-        if i < p {
-            demand(good_name(&eight), 5, place)?;
-            dump.names.push(eight);
-        } else {
-            let row = u64::from_be_bytes(eight);
-            demand(parts(row).all(|part| part < p), 18, place)?;
-            dump.rows.push(row);
-        }
+    let (names, rows) = bytes[8..].split_at(8 * p);
+    let mut dump = Dump {
+        names: good_names(names, name_place)?,
+        rows: Vec::with_capacity(n),
+    };
+    for (i, row) in rows.chunks(8).enumerate() {
+        let row = u64::from_be_bytes(row.try_into().expect("eight bytes"));
+        demand(parts(row).all(|part| part < p), 18, 8 + 8 * p + 8 * i)?;
+        dump.rows.push(row);
     }
     Ok(dump)
 }

@@ -1,4 +1,6 @@
-//! Sheets and networks as bytes, with checks 1 to 9 in their order.
+//! Sheets and networks as bytes, with checks 1 to 9 and 21 in their order.
+
+use std::collections::HashSet;
 
 use crate::network::{Link, Network};
 
@@ -25,6 +27,29 @@ pub fn good_part_count(p: usize) -> bool {
 pub fn good_name(name: &[u8]) -> bool {
     let signs = name.iter().take_while(|b| (33..=126).contains(*b)).count();
     signs > 0 && name[signs..].iter().all(|&b| b == 32)
+}
+
+/// The names in some bytes, eight for each, or the first refusal: 5 for a name
+/// that is none, and only then 21 for one that equals an earlier one, both
+/// with the place of the name's number.
+pub fn good_names(bytes: &[u8], place: impl Fn(usize) -> usize) -> Result<Vec<[u8; 8]>, Refusal> {
+    let names: Vec<[u8; 8]> = bytes
+        .chunks(8)
+        .map(|name| name.try_into().expect("eight bytes"))
+        .collect();
+    for (i, name) in names.iter().enumerate() {
+        demand(good_name(name), 5, place(i))?;
+    }
+    let mut earlier = HashSet::new();
+    for (i, name) in names.iter().enumerate() {
+        demand(earlier.insert(name), 21, place(i))?;
+    }
+    Ok(names)
+}
+
+/// Where the name of a number stands behind a head of eight bytes.
+pub fn name_place(name: usize) -> usize {
+    8 + 8 * name
 }
 
 /// Links before the next, which is checked against them by 6 to 9.
@@ -84,7 +109,7 @@ pub fn pair(bytes: &[u8]) -> u16 {
     u16::from_be_bytes([bytes[0], bytes[1]])
 }
 
-/// The network of a sheet, or the first refusal among 1 to 9.
+/// The network of a sheet, or the first refusal among 1 to 9 and 21.
 pub fn parse(sheet: &[u8]) -> Result<Network, Refusal> {
     demand(sheet.starts_with(b"PLS"), 1, 0)?;
     demand(sheet.len() >= 5 && pair(&sheet[3..]) == 1, 2, 3)?;
@@ -93,11 +118,7 @@ pub fn parse(sheet: &[u8]) -> Result<Network, Refusal> {
     demand(sheet.len() == 8 + 8 * p + 4 * m, 3, sheet.len())?;
     demand(good_part_count(p), 4, 5)?;
     let (names, links) = sheet[8..].split_at(8 * p);
-    let mut network = Network::default();
-    for (i, name) in names.chunks(8).enumerate() {
-        demand(good_name(name), 5, 8 + 8 * i)?;
-        network.names.push(name.try_into().expect("eight bytes"));
-    }
+    let names = good_names(names, name_place)?;
     let mut so_far = LinksSoFar::new(p);
     for (i, bytes) in links.chunks(4).enumerate() {
         let place = 8 + 8 * p + 4 * i;
@@ -106,8 +127,10 @@ pub fn parse(sheet: &[u8]) -> Result<Network, Refusal> {
             .map_err(|number| Refusal { number, place })?;
         so_far.add(link);
     }
-    network.links = so_far.links;
-    Ok(network)
+    Ok(Network {
+        names,
+        links: so_far.links,
+    })
 }
 
 /// The sheet of a network.
@@ -123,8 +146,8 @@ pub fn sheet_bytes(network: &Network) -> Vec<u8> {
     bytes
 }
 
-/// The network in the writer's arguments, or its first refusal among 3 to 9;
-/// the place is always 0.
+/// The network in the writer's arguments, or its first refusal among 3 to 9
+/// and 21; the place is always 0.
 pub fn parse_lists(
     names: &[u8],
     lower: &[u16],
@@ -135,7 +158,7 @@ pub fn parse_lists(
     demand(names.len().is_multiple_of(8) && level, 3, 0)?;
     let p = names.len() / 8;
     demand(good_part_count(p), 4, 0)?;
-    demand(names.chunks(8).all(good_name), 5, 0)?;
+    let names = good_names(names, |_| 0)?;
     let mut so_far = LinksSoFar::new(p);
     for i in 0..lower.len() {
         let link = so_far
@@ -143,9 +166,8 @@ pub fn parse_lists(
             .map_err(|number| Refusal { number, place: 0 })?;
         so_far.add(link);
     }
-    let names = names.chunks(8).map(|n| n.try_into().expect("eight bytes"));
     Ok(Network {
-        names: names.collect(),
+        names,
         links: so_far.links,
     })
 }

@@ -7,7 +7,7 @@ use reference::fast;
 use reference::network::{levels, Community, Link, Mean, Network};
 use reference::published::plain_names;
 use reference::random::Random;
-use reference::sheets::{parse, parse_lists, sheet_bytes, LinksSoFar};
+use reference::sheets::{good_names, parse, parse_lists, sheet_bytes, LinksSoFar};
 use reference::steps::{Step, Steps, JOURNAL_ENTRIES};
 
 /// A random network whose weights are among a few.
@@ -274,6 +274,19 @@ fn links_are_checked_in_order() {
     assert_eq!(so_far.check(0, 1, 0), Err(7));
     assert_eq!(so_far.check(0, 1, 6), Err(8));
     assert_eq!(so_far.check(0, 1, 5), Err(9));
+}
+
+#[test]
+fn names_are_checked_in_order() {
+    let told = |names: &[u8]| {
+        let found = good_names(names, |name| name);
+        found.map_err(|r| (r.number, r.place)).err()
+    };
+    assert_eq!(told(b"A       B       AB      "), None);
+    assert_eq!(told(b"ABCDEFGHABCDEFGIABCDEFG "), None);
+    assert_eq!(told(b"A       A       A       "), Some((21, 1)));
+    assert_eq!(told(b"A       B       B       A       "), Some((21, 2)));
+    assert_eq!(told(b"A       A       A B     "), Some((5, 2)));
 }
 
 /// Whether two k-cliques are in one class over links of weight t or more.

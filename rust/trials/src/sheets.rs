@@ -52,15 +52,16 @@ pub fn random_name(random: &mut Random) -> [u8; 8] {
     name
 }
 
-fn random_names(random: &mut Random, p: usize) -> Vec<[u8; 8]> {
-    let one = random_name(random);
-    let alike = random.chance(10);
-    (0..p)
-        .map(|_| match alike {
-            true => one,
-            false => random_name(random),
-        })
-        .collect()
+/// Random names, of which no two are equal.
+pub fn random_names(random: &mut Random, p: usize) -> Vec<[u8; 8]> {
+    let mut names = Vec::with_capacity(p);
+    while names.len() < p {
+        let name = random_name(random);
+        if !names.contains(&name) {
+            names.push(name);
+        }
+    }
+    names
 }
 
 /// All pairs of parts below p.

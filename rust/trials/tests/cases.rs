@@ -4,7 +4,7 @@
 use std::fs;
 use std::path::Path;
 
-use reference::calls::{self, Expected, ExpectedMean, Judge, Left, Outcome};
+use reference::calls::{self, Expected, ExpectedMean, ExpectedNetwork, Judge, Left, Outcome};
 use reference::json::{parse, Value};
 use reference::network::{Link, Mean};
 use reference::sheets::Refusal;
@@ -33,7 +33,13 @@ fn list(value: &Value) -> Vec<u64> {
     value.list().iter().map(Value::number).collect()
 }
 
-/// The four lengths of the tables.
+/// Numbers of 16 bits.
+fn short_list(value: &Value) -> Vec<u16> {
+    let short = |&number: &u64| u16::try_from(number).expect("16 bits");
+    list(value).iter().map(short).collect()
+}
+
+/// Four lengths: of the tables, or of the reader's outputs.
 fn lengths(value: &Value) -> [usize; 4] {
     let lengths: Vec<usize> = value.list().iter().map(number).collect();
     lengths.try_into().expect("four lengths")
@@ -78,6 +84,65 @@ fn expected_mean(out: &Value, tables: Left) -> ExpectedMean {
         Ok(mean) => ExpectedMean::told(mean, tables),
         Err(refusal) => ExpectedMean::refused(refusal, tables),
     }
+}
+
+/// The reader's four outputs.
+fn network_read(ok: &Value) -> ExpectedNetwork {
+    let outcome = Outcome {
+        count: number(ok.field("m")),
+        parts: number(ok.field("p")),
+        ..Outcome::default()
+    };
+    ExpectedNetwork {
+        outcome,
+        names: bytes(ok.field("names")),
+        lower: short_list(ok.field("lower")),
+        higher: short_list(ok.field("higher")),
+        weights: short_list(ok.field("weights")),
+    }
+}
+
+fn read_sheet(trials: &mut Trials, case: &Value) {
+    let given = case.field("in");
+    let outputs = lengths(given.field("lens"));
+    let judge = Judge::new(&bytes(given.field("sheet")));
+    let expected = match answer(case.field("out")) {
+        Ok(ok) => network_read(ok),
+        Err(refusal) => ExpectedNetwork {
+            outcome: refusal.into(),
+            ..ExpectedNetwork::default()
+        },
+    };
+    assert_eq!(judge.read(outputs), expected, "{case:?}");
+    trials.read(&judge, outputs);
+}
+
+fn name_of(trials: &mut Trials, case: &Value) {
+    let given = case.field("in");
+    let (sheet, part) = (bytes(given.field("sheet")), number(given.field("part")));
+    let judge = Judge::new(&sheet);
+    let expected = match answer(case.field("out")) {
+        Ok(ok) => {
+            let at = number(ok.field("at"));
+            assert_eq!(sheet[at..at + 8], bytes(ok.field("name")), "{case:?}");
+            Outcome::count(at)
+        }
+        Err(refusal) => refusal.into(),
+    };
+    assert_eq!(judge.name(part), expected, "{case:?}");
+    trials.name(&judge, part);
+}
+
+fn write_network(trials: &mut Trials, case: &Value) {
+    let given = case.field("in");
+    let names = bytes(given.field("names"));
+    let [lower, higher, weights] =
+        ["lower", "higher", "weights"].map(|name| short_list(given.field(name)));
+    let out = number(given.field("out_len"));
+    let expected = expected(case.field("out"), Left::Untouched);
+    let found = calls::write(&names, &lower, &higher, &weights, out);
+    assert_eq!(found, expected, "{case:?}");
+    trials.write(&names, [&lower, &higher, &weights], out);
 }
 
 fn mean_weight(trials: &mut Trials, case: &Value) {
@@ -225,6 +290,9 @@ fn tried(trials: &mut Trials, case: &Value) {
             assert_eq!(calls::dump_sheet(&dump, length), expected, "{case:?}");
             trials.dump_sheet_as(&dump, length, &expected);
         }
+        "read_sheet" => read_sheet(trials, case),
+        "name_of" => name_of(trials, case),
+        "write_network" => write_network(trials, case),
         "mean_weight" => mean_weight(trials, case),
         "steps" => steps(trials, case),
         "state_check" => state_check(trials, case),

@@ -163,6 +163,11 @@ fn sheets_and_names() {
     let mut bytes = sheet(3, &[(0, 1, 5), (0, 2, 5)]);
     bytes[37] = 1;
     assert_eq!(read(&bytes), Err(refused(9, 36)));
+    let mut alike = network(3, &[]);
+    alike.names.copy_within(8..16, 16);
+    assert_eq!(write(&alike), Err(refused(21, 0)));
+    bytes.copy_within(16..24, 24);
+    assert_eq!(read(&bytes), Err(refused(21, 24)));
     assert_eq!(read(b""), Err(refused(1, 0)));
     assert_eq!(read(b"PLS\x00\x01\xff\xff\xff"), Err(refused(3, 8)));
     let sheet = p1();
@@ -185,10 +190,10 @@ fn bounds_and_words() {
     assert_eq!(subset_count(65, 5), 0);
     let words = |number| Refused { number, place: 36 }.to_string();
     assert_eq!(words(9), "refused 9 at 36: pair given before");
-    let mut sentences: Vec<String> = (1..=20).map(words).collect();
+    let mut sentences: Vec<String> = (1..=21).map(words).collect();
     sentences.sort();
     sentences.dedup();
-    assert_eq!(sentences.len(), 20);
+    assert_eq!(sentences.len(), 21);
     assert!(!sentences.iter().any(|s| s.contains("without a meaning")));
 }
 

@@ -1,5 +1,5 @@
-//! Refusals of the calls on a sheet: every number at every place, several
-//! faults at once, truncations, random bytes and single bits.
+//! Refusals of the calls on a sheet: every number at every place (names.rs
+//! has 21), several faults at once, truncations, random bytes and single bits.
 
 use reference::calls::{Judge, Run};
 use reference::network::{Link, Network};
@@ -7,6 +7,7 @@ use reference::random::Random;
 use reference::sheets::{sheet_bytes, Refusal};
 use trials::arguments::{unequal, BAD_K, BAD_P, RUNS};
 use trials::sheets::{network, p8, random_name, random_network, thin_out};
+use trials::told::Told;
 use trials::Trials;
 
 fn random_sheet(random: &mut Random, p: usize) -> Network {
@@ -204,12 +205,14 @@ fn random_bytes(random: &mut Random) -> Vec<u8> {
         _ => vec![b'P', b'L', b'S', 0, 1, p as u8, 0, m as u8],
     };
     let names = random.chance(80);
+    let (one, alike) = (random_name(random), random.chance(10));
     let length = match random.chance(80) {
         true => 8 + 8 * p + 4 * m,
         false => random.below(200),
     };
     while sheet.len() < length {
         match names && sheet.len() >= 8 && sheet.len() < 8 + 8 * p {
+            true if alike => sheet.extend(one),
             true => sheet.extend(random_name(random)),
             false if random.chance(50) => sheet.push(random.below(8) as u8),
             false => sheet.push(random.number() as u8),
@@ -233,10 +236,16 @@ fn bytes_at_random() {
 fn several_faults() {
     let trials = &mut Trials::new("several faults");
     let networks = networks(&mut trials.random);
+    let mut told = Told::default();
     for _ in 0..20_000 {
         trials.case();
         let network = &networks[trials.random.below(networks.len())];
         let mut sheet = sheet_bytes(network);
+        if trials.random.chance(20) {
+            let p = network.names.len();
+            let from = 8 + 8 * trials.random.below(p);
+            sheet.copy_within(from..from + 8, 8 + 8 * trials.random.below(p));
+        }
         for _ in 0..trials.random.within(1, 4) {
             let place = trials.random.below(sheet.len());
             // Mostly behind the header, whose faults hide all others.
@@ -256,8 +265,12 @@ fn several_faults() {
         if trials.random.chance(5) {
             sheet.pop();
         }
-        trials.every_call(&Judge::new(&sheet));
+        let judge = Judge::new(&sheet);
+        let number = judge.network().err().map_or(0, |refusal| refusal.number);
+        told.add(number);
+        trials.every_call(&judge);
     }
+    told.each_above(20, &[0, 1, 2, 3, 5, 6, 7, 8, 21]);
 }
 
 /// Everything that a caller can get wrong, crossed: k, the tables, the sets,

@@ -1,10 +1,12 @@
 //! The writer's refusals, the slot bound and the table of subset counts.
 
+use reference::calls;
 use reference::network::Network;
 use reference::random::Random;
 use reference::sheets::sheet_bytes;
 use trials::arguments::{BAD_K, BAD_P};
 use trials::sheets::random_network;
+use trials::told::Told;
 use trials::Trials;
 
 /// The writer's arguments.
@@ -37,6 +39,13 @@ impl Lists {
         8 + self.names.len() + 4 * self.lists[0].len()
     }
 
+    /// The number that the writer is to tell.
+    fn number(&self, out: usize) -> u8 {
+        let [lower, higher, weights] = &self.lists;
+        let expected = calls::write(&self.names, lower, higher, weights, out);
+        expected.outcome.number
+    }
+
     fn write(&self, trials: &mut Trials, out: usize) {
         trials.case();
         let [lower, higher, weights] = &self.lists;
@@ -56,6 +65,13 @@ fn outputs() {
     }
 }
 
+/// Different names for any number of parts.
+fn numbered_names(p: usize) -> Vec<u8> {
+    (0..p)
+        .flat_map(|q| format!("P{q:<7}").into_bytes())
+        .collect()
+}
+
 #[test]
 fn lengths() {
     let trials = &mut Trials::new("writer's lengths");
@@ -68,10 +84,12 @@ fn lengths() {
     // From no part to more than a sheet can have, with and without links.
     for p in (0..70).chain([128, 255, 256, 257, 300]) {
         for links in [0, 1, lists.lists[0].len()] {
-            let mut other = lists.clone();
-            other.names = b"A       ".repeat(p);
-            other.lists.iter_mut().for_each(|list| list.truncate(links));
-            other.write(trials, 4000);
+            for names in [numbered_names(p), b"A       ".repeat(p)] {
+                let mut other = lists.clone();
+                other.names = names;
+                other.lists.iter_mut().for_each(|list| list.truncate(links));
+                other.write(trials, 4000);
+            }
         }
     }
     for list in 0..3 {
@@ -120,12 +138,13 @@ fn names_and_links() {
 #[test]
 fn several_faults() {
     let trials = &mut Trials::new("writer's faults at once");
+    let mut told = Told::default();
     for _ in 0..20_000 {
         let p = trials.random.within(1, 12);
         let mut lists = Lists::random(&mut trials.random, p, 20);
         for _ in 0..trials.random.within(1, 4) {
             let random = &mut trials.random;
-            match random.below(8) {
+            match random.below(9) {
                 0 => lists.names.truncate(random.below(8 * p)),
                 1 => lists.names.extend([32; 4]),
                 2 | 3 if !lists.names.is_empty() => {
@@ -133,6 +152,10 @@ fn several_faults() {
                     lists.names[place] = random.number() as u8;
                 }
                 4 => lists.lists[random.below(3)].push(1),
+                5 if lists.names.len() >= 8 * p => {
+                    let from = 8 * random.below(p);
+                    lists.names.copy_within(from..from + 8, 8 * random.below(p));
+                }
                 _ => {
                     let list = random.below(3);
                     if let Some(value) = lists.lists[list].last_mut() {
@@ -142,8 +165,10 @@ fn several_faults() {
             }
         }
         let out = trials::arguments::around(&mut trials.random, lists.length());
+        told.add(lists.number(out));
         lists.write(trials, out);
     }
+    told.each_above(100, &[0, 3, 5, 6, 7, 8, 16, 21]);
 }
 
 /// More links than a sheet can count must repeat a pair.

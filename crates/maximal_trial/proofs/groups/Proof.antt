@@ -46,26 +46,41 @@ cast-high c = omega arith
 add-i : tie.Need-add-i Inv-loop μ-loop
 add-i c = omega arith
 
-array-write-s-9 : tie.Need-array-write-s-9 Inv-loop μ-loop
-array-write-s-9 c = omega arith
-
 add-s : tie.Need-add-s Inv-loop μ-loop
 add-s c = omega arith
 
-array-write-s-10 : tie.Need-array-write-s-10 Inv-loop μ-loop
-array-write-s-10 c = omega arith
+cast-s : tie.Need-cast-s Inv-loop μ-loop
+cast-s c = omega arith
+
+mul-s : tie.Need-mul-s Inv-loop μ-loop
+mul-s c = omega arith
 
 add-s-2 : tie.Need-add-s-2 Inv-loop μ-loop
 add-s-2 c = omega arith
 
-array-write-s-11 : tie.Need-array-write-s-11 Inv-loop μ-loop
-array-write-s-11 c = omega arith
+array-write-s-9 : tie.Need-array-write-s-9 Inv-loop μ-loop
+array-write-s-9 c = omega arith
+
+array-write-s-10 : tie.Need-array-write-s-10 Inv-loop μ-loop
+array-write-s-10 c = omega arith
 
 add-s-3 : tie.Need-add-s-3 Inv-loop μ-loop
 add-s-3 c = omega arith
 
+array-write-s-11 : tie.Need-array-write-s-11 Inv-loop μ-loop
+array-write-s-11 c = omega arith
+
+add-s-4 : tie.Need-add-s-4 Inv-loop μ-loop
+add-s-4 c = omega arith
+
 array-write-s-12 : tie.Need-array-write-s-12 Inv-loop μ-loop
 array-write-s-12 c = omega arith
+
+add-s-5 : tie.Need-add-s-5 Inv-loop μ-loop
+add-s-5 c = omega arith
+
+array-write-s-13 : tie.Need-array-write-s-13 Inv-loop μ-loop
+array-write-s-13 c = omega arith
 
 add-at : tie.Need-add-at Inv-loop μ-loop
 add-at c = omega arith
@@ -109,13 +124,18 @@ groups-spec =
     cast-low
     cast-high
     add-i
-    array-write-s-9
     add-s
-    array-write-s-10
+    cast-s
+    mul-s
     add-s-2
-    array-write-s-11
+    array-write-s-9
+    array-write-s-10
     add-s-3
+    array-write-s-11
+    add-s-4
     array-write-s-12
+    add-s-5
+    array-write-s-13
     add-at
     loop-less
     loop-again

@@ -1,7 +1,7 @@
 use Rattle.text.proofs.Names.{padded-length, padded-at}
 use Rattle.text.proofs.Bytes.{same-step, same-end}
 use Rattle.text.specs.Reading.{padded}
-use Rattle.words.specs.Lines.{same}
+use Rattle.sets.specs.Lists.{same}
 use Rattle.sets.proofs.Tests.{and-stop, and-go}
 use borrow.Author.Tests.{lt-leb, le-leb, ne-eqb, eq-eqb}
 use lib.ListN.{drop, length}

@@ -5,10 +5,10 @@ use Rattle.report.proofs.names.find.Statement.{statement}
 use Rattle.report.proofs.names.find.Tie as tie
 
 abbrev Inv-loop : tie.InvT-loop
-Inv-loop s word from to q₀ q = Unit {0}
+Inv-loop s word p q₀ q = Unit {0}
 
 abbrev μ-loop : tie.MeasureT-loop
-μ-loop s word from to q₀ q = to - q
+μ-loop s word p q₀ q = p - q
 
 loop-holds : tie.Need-loop-holds Inv-loop μ-loop
 loop-holds c = tt
