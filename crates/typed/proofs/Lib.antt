@@ -1,3 +1,4 @@
 mod Moved
 mod Alone
+mod Asked
 pub mod Bounds

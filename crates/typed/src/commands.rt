@@ -3,6 +3,7 @@ ghost use mathlib.Core.Path.{_≡_};
 ghost use mathlib.Core.Bool.{true};
 ghost use mathlib.Core.List.{[], _∷_};
 ghost use Rattle.words.specs.Lines.{words};
+ghost use Rattle.typed.specs.Commands.{wordAsks, lineAsks};
 use words::Form;
 
 // A blank line or a comment is silent, as it is for `pack`.
@@ -26,8 +27,10 @@ fn is_alone(line: &[u8], word: &[u8]) -> bool
     check::same(words::word(line, 0), word)
 }
 
-// A line of one word.
-fn one_word(line: &[u8]) -> Command {
+// What a line of neither form asks for.
+fn one_word(line: &[u8]) -> Command
+    ensures { λ r. ⌜ r ≡ wordAsks (words (now (line .entry))) ⌝ }
+{
     if is_alone(line, b"back") {
         return Command::Back;
     }
@@ -40,7 +43,9 @@ fn one_word(line: &[u8]) -> Command {
     Command::Unknown
 }
 
-pub fn command_of(line: &[u8]) -> Command {
+pub fn command_of(line: &[u8]) -> Command
+    ensures { λ r. ⌜ r ≡ lineAsks (now (line .entry)) ⌝ }
+{
     match words::form_of(line) {
         Form::Silent => Command::Silent,
         Form::Part => Command::Part,
