@@ -39,7 +39,7 @@ extern "C" {
 #endif
 
 /* The number of the latest change request that has landed, in order of landing; 0: the base. */
-#define FAMILIES_EDITION 4
+#define FAMILIES_EDITION 5
 
 /* On a refusal count and parts are 0. parts is 0 from every call but families_read. */
 typedef struct {
@@ -101,7 +101,7 @@ families_outcome families_name(const uint8_t *sheet, size_t sheet_length, size_t
 /* The slots that suffice for p parts and k. count = the bound. */
 families_outcome families_slot_bound(size_t p, size_t k);
 
-/* C(n, r) for n 0 to 64 and r 0 to 6. count = C(n, r), 0 outside the table. */
+/* C(n, r) for n 0 to 64 and r 0 to 6. count = C(n, r), 0 outside. */
 families_outcome families_subset_count(size_t n, size_t r);
 
 /*

@@ -16,7 +16,7 @@ use Rattle.percolation.specs.Links.{slotSets, slots}
 use Rattle.percolation.proofs.Accepted.{slots-none}
 use Rattle.subsets.specs.Subsets.{subsetCount, slotBound}
 use Rattle.subsets.proofs.Checks.{bound-in}
-use Rattle.subsets.proofs.Counts.{table, counted}
+use Rattle.subsets.proofs.Formula.{formula, count-formula}
 
 -- a slot is a set of k parts
 pub slots-bound : (p k : ℕ) (F : List ℕ) → slots p (suc k) F ≤ subsetCount p k
@@ -46,5 +46,5 @@ bound-enough p (suc k) F h = go (lt-or-le p (suc k)) F h
 
 -- C(64, 5), the slot bound for p 64 and k 6
 pub count-64-5 : subsetCount 64 5 ≡ 7624512
-unfolding table
-count-64-5 = sym (counted 64 5 (omega arith) (omega arith))
+unfolding formula
+count-64-5 = count-formula 64 5

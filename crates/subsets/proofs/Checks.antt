@@ -1,7 +1,7 @@
--- What the table and the slot bound answer in each case of the code. Assumes nothing.
+-- What a count and the slot bound answer in each case of the code. Assumes nothing.
 use mathlib.Core.Bool.{true, false}
 use mathlib.Core.Path.{_≡_, refl, sym, ap, _∙_}
-use Prim.Native.Nat.{ℕ, _-_, _≤_, _<_}
+use Prim.Native.Nat.{ℕ, zero, suc, _-_, _≤_, _<_}
 use native.Mathlib.Omega.{arith}
 use borrow.Author.Tests.{le-leb, lt-leb}
 use lib.Dec.{leb}
@@ -12,8 +12,9 @@ use Rattle.sets.proofs.Tests.{no-and}
 use Rattle.percolation.specs.Ranges.{goodCount, goodK}
 use Rattle.percolation.proofs.Ranges.{good-count, good-k}
 use Rattle.subsets.specs.Subsets.{subsetCount, tableCount, slotBound, checkBound}
+use Rattle.subsets.proofs.Formula.{count-few}
 
--- ---- the table
+-- ---- a count
 
 pub far-count : (n r : ℕ) → 64 < n → 0 ≡ tableCount n r
 unfolding tableCount
@@ -27,6 +28,10 @@ pub in-table : (n r : ℕ) → n ≤ 64 → r ≤ 6 → tableCount n r ≡ subse
 unfolding tableCount
 in-table n r h l = rw (le-leb n 64 h, le-leb r 6 l) refl
 
+pub few-parts : (n r : ℕ) → n ≤ 64 → r ≤ 6 → n < r → 0 ≡ tableCount n r
+few-parts n zero h l m = absurd (omega arith)
+few-parts n (suc r) h l m = sym (in-table n (suc r) h l ∙ count-few n r (omega arith))
+
 -- ---- the slot bound
 
 pub bound-over : (p k : ℕ) → p < k → slotBound p k ≡ 0
@@ -37,7 +42,7 @@ pub bound-in : (p k : ℕ) → k ≤ p → slotBound p k ≡ subsetCount p (k - 
 unfolding slotBound
 bound-in p k h = rw (le-leb k p h) refl
 
--- the table's answer is the bound
+-- the count's answer is the bound
 pub bound-at : (p k : ℕ) → goodCount p ≡ true → goodK k ≡ true → k ≤ p → tableCount p (k - 1) ≡ slotBound p k
 bound-at p k e f h =
     in-table p (k - 1) (good-count p e .1) (omega (arith, good-k k f .1)) ∙ sym (bound-in p k h)

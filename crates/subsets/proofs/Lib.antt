@@ -1,6 +1,5 @@
 -- The laws; each other folder holds the proof of one function.
 pub mod Bound
 pub mod Checks
-pub mod Counts
+pub mod Formula
 pub mod Pascal
-pub mod Table

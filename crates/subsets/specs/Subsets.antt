@@ -13,7 +13,7 @@ unfoldable pub subsetCount : ℕ → ℕ → ℕ
 unfolding keep size setsOf
 subsetCount n r = length (keep (λ s. eqb (size s) r) (setsOf n))
 
--- what the table answers: C(n, r) for n 0 to 64 and r 0 to 6, and 0 outside
+-- what is answered: C(n, r) for n 0 to 64 and r 0 to 6, and 0 outside
 unfoldable pub tableCount : ℕ → ℕ → ℕ
 tableCount n r = cond (leb n 64 && leb r 6) (subsetCount n r) 0
 

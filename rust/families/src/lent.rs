@@ -94,7 +94,7 @@ pub fn slot_bound(p: usize, k: usize) -> Outcome {
     unsafe { ffi::families_slot_bound(p, k) }
 }
 
-/// C(n, r) in `count`, 0 outside the table.
+/// C(n, r) for n 0 to 64 and r 0 to 6 in `count`, 0 outside.
 pub fn subset_count(n: usize, r: usize) -> Outcome {
     unsafe { ffi::families_subset_count(n, r) }
 }

@@ -29,7 +29,7 @@ pub fn slot_bound(p: usize, k: usize) -> Result<usize, Refused> {
     lent::slot_bound(p, k).accepted().map(|o| o.count)
 }
 
-/// C(n, r) for n 0 to 64 and r 0 to 6, and 0 outside the table.
+/// C(n, r) for n 0 to 64 and r 0 to 6, and 0 outside.
 pub fn subset_count(n: usize, r: usize) -> usize {
     lent::subset_count(n, r).count
 }

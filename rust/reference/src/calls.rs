@@ -131,13 +131,19 @@ impl ExpectedMean {
     }
 }
 
-/// C(n, r) within the table, and 0 outside it.
+/// C(n, r) for n 0 to 64 and r 0 to 6, and 0 outside: by Pascal's rule, row
+/// by row, so that no product or division is shared with the formula.
 pub fn subset_count(n: usize, r: usize) -> usize {
     if n > 64 || r > 6 {
         return 0;
     }
-    // Each step is the number of subsets one part larger, so it is whole.
-    (0..r).fold(1, |count, i| count * n.saturating_sub(i) / (i + 1))
+    let mut row = [1, 0, 0, 0, 0, 0, 0];
+    for _ in 0..n {
+        for i in (1..row.len()).rev() {
+            row[i] += row[i - 1];
+        }
+    }
+    row[r]
 }
 
 pub fn good_k(k: usize) -> bool {
