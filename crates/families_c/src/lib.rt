@@ -88,7 +88,7 @@ pub extern "C" fn families_slot_bound(p: usize, k: usize) -> Outcome
     of_answer(subsets::slot_bound(p, k))
 }
 
-// subsets::subset_count: count is C(n, r), 0 outside the table.
+// subsets::subset_count: count is C(n, r) for n 0 to 64 and r 0 to 6, 0 outside.
 #[no_mangle]
 pub extern "C" fn families_subset_count(n: usize, r: usize) -> Outcome
     ensures { λ o. ⌜ o ≡ outcome 0 0 (tableCount n r) 0 ⌝ }

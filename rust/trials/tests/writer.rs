@@ -1,4 +1,4 @@
-//! The writer's refusals, the slot bound and the table of subset counts.
+//! The writer's refusals, the slot bound and the subset counts.
 
 use reference::calls;
 use reference::network::Network;
