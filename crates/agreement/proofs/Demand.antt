@@ -30,7 +30,7 @@ use Rattle.runs.specs.OnSheet.{listingOf, ListingMeets}
 use Rattle.runs.specs.Lent.{checkCall}
 use Rattle.runs.proofs.Agreed.{not-refused}
 use Rattle.runs.proofs.Admitted.{call-sheet, call-k}
-use Rattle.sequential.specs.declared.State.{State}
+use Rattle.states.specs.declared.State.{State}
 use Rattle.sequential.specs.declared.Stepped.{Stepped}
 use Rattle.sequential.specs.Steps.{checkStart, StartMeets, ListingNowMeets}
 use Rattle.sequential.specs.EveryList.{Runs, Claim}

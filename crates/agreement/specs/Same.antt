@@ -13,7 +13,7 @@ use Rattle.slots.specs.Tables.{Tables}
 use Rattle.sheet.specs.Sheet.{linksOf, checkSheet}
 use Rattle.listings.specs.Listing.{Gives}
 use Rattle.runs.specs.OnSheet.{ListingMeets}
-use Rattle.sequential.specs.declared.State.{State}
+use Rattle.states.specs.declared.State.{State}
 use Rattle.sequential.specs.EveryList.{Claim}
 
 -- s is accepted, each of its links is one of L, and each of L is one of its links; its part count is its own

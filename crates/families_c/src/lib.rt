@@ -32,7 +32,7 @@ use outcomes::of_name;
 use outcomes::of_sheet;
 use outcomes::of_step;
 use runs::Method;
-use sequential::State;
+use states::State;
 
 // sheet_reader::read: count is the links, parts the parts.
 #[no_mangle]

@@ -8,7 +8,7 @@ mod replies;
 mod steps;
 
 pub use dialogue::run;
-use sequential::State;
+use states::State;
 
 // What goes from line to line beside the parts, the tables and the journal: whether the steps have been started with all parts, whether the dialogue goes on,
 // and the state of the steps.

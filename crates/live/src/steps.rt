@@ -9,8 +9,8 @@ use answers::Answer;
 use console::text;
 use report::families_now;
 use report::link_words;
-use sequential::State;
 use sheet::part_count;
+use states::State;
 
 // The session after an answer that left the state alone.
 pub fn as_before(session: Session, going: bool) -> Session {

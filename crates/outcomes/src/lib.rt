@@ -8,10 +8,10 @@ ghost use Rattle.outcomes.specs.Outcomes.{outcome, shown, sheetShown, me
 use answers::Answer;
 use mean::FamilyMean;
 use meeting::Met;
-use sequential::State;
 use sequential::Stepped;
 use sheet::Checked;
 use sheet::Found;
+use states::State;
 
 // What a call answers: number 0 with what it counts, or a refusal's number and place.
 #[repr(C)]

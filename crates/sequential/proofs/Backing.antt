@@ -33,11 +33,12 @@ use Rattle.journal.specs.Journal.{journalLength, journalEntry, journalOf}
 use Rattle.journal.specs.Model.{entryLink, readable, makesNone, refilled}
 use Rattle.journal.proofs.Entries.{entry-link, journal-less, first-entries, last-entry, entries-links, links-readable}
 use Rattle.journal.proofs.Refilled.{length-none, refill-kept, refill-made}
-use Rattle.sequential.specs.declared.State.{State}
+use Rattle.states.specs.declared.State.{State}
+use Rattle.states.specs.Model.{journalNumber, backNumber}
+use Rattle.states.proofs.Checking.{first-go, back-19, back-0}
 use Rattle.sequential.specs.declared.Stepped.{Stepped}
 use Rattle.sequential.specs.Steps.{state, checkTakeBack, Holds, BackMeets}
-use Rattle.sequential.specs.Model.{journalNumber, backNumber, fewer, backLinks, backTables, backState, backJournal}
-use Rattle.sequential.proofs.Checking.{first-go, back-19, back-0}
+use Rattle.sequential.specs.Model.{fewer, backLinks, backTables, backState, backJournal}
 use Rattle.sequential.proofs.Inserting.{numbered-refused, back-says, held-level, held-wide, held-few, held-journal, two, used-is, moved, count-not-refused}
 
 -- ---- 19, by the links that are held

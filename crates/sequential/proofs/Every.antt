@@ -22,7 +22,7 @@ use Rattle.slots_theory.specs.Shows.{Shows}
 use Rattle.runs.specs.Lent.{level, left, cleared}
 use Rattle.runs.proofs.Left.{cleared-shown}
 use Rattle.journal.specs.Journal.{journalLength, whole, journalOf}
-use Rattle.sequential.specs.declared.State.{State}
+use Rattle.states.specs.declared.State.{State}
 use Rattle.sequential.specs.declared.Stepped.{Stepped}
 use Rattle.sequential.specs.Steps.{state, checkStart, startState, leftJournal, Holds, StartMeets}
 use Rattle.sequential.specs.EveryList.{Runs, none, insertion, taking, Claim}

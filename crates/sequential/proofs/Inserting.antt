@@ -37,11 +37,13 @@ use Rattle.clique_taking.proofs.AllTaken.{all-kept}
 use Rattle.runs.specs.Lent.{level}
 use Rattle.journal.specs.Journal.{journalLength, whole, journalEntry}
 use Rattle.journal.proofs.Entries.{journal-length, journal-more}
-use Rattle.sequential.specs.declared.State.{State}
+use Rattle.states.specs.declared.State.{State}
+use Rattle.states.specs.States.{goodState}
+use Rattle.states.specs.Model.{firstOf, stateNumber, linkStep, journalNumber, insertNumber, backNumber}
+use Rattle.states.proofs.Checking.{first-go, first-stop, journal-0}
 use Rattle.sequential.specs.declared.Stepped.{Stepped}
-use Rattle.sequential.specs.Steps.{state, goodState, checkState, checkJournal, checkTakeBack, Holds, InsertMeets}
-use Rattle.sequential.proofs.Checking.{first-go, first-stop, journal-0}
-use Rattle.sequential.specs.Model.{firstOf, stateNumber, linkStep, journalNumber, insertNumber, backNumber, insertedTables, insertedState, insertedJournal}
+use Rattle.sequential.specs.Steps.{state, checkState, checkJournal, checkTakeBack, Holds, InsertMeets}
+use Rattle.sequential.specs.Model.{insertedTables, insertedState, insertedJournal}
 
 -- ---- numbers
 

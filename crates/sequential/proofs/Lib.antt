@@ -1,5 +1,4 @@
 pub mod Backing
-pub mod Checking
 pub mod Every
 pub mod Inserting
 pub mod NowListed

@@ -17,9 +17,9 @@ use Rattle.clique_taking.proofs.Inserted.{cliques-family}
 use Rattle.listings.specs.Listing.{WritesListing}
 use Rattle.listings.specs.Model.{listed}
 use Rattle.listings.proofs.Listed.{listed-communities}
-use Rattle.sequential.specs.declared.State.{State}
+use Rattle.states.specs.declared.State.{State}
+use Rattle.states.specs.Model.{stateNumber}
 use Rattle.sequential.specs.Steps.{Holds, ListingNowMeets}
-use Rattle.sequential.specs.Model.{stateNumber}
 use Rattle.sequential.proofs.Inserting.{state-says, numbered-refused, held-number}
 
 module _ (S : State) (T : Tables) (old : List ℕ) (r : Answer) (out : List ℕ) where

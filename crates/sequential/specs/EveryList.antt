@@ -14,7 +14,7 @@ use Rattle.checks.specs.Neighbours.{lastWeight}
 use Rattle.slots.specs.Tables.{Tables}
 use Rattle.listings.specs.Listing.{WritesListing}
 use Rattle.journal.specs.Journal.{journalOf}
-use Rattle.sequential.specs.declared.State.{State}
+use Rattle.states.specs.declared.State.{State}
 use Rattle.sequential.specs.declared.Stepped.{Stepped}
 use Rattle.sequential.specs.Steps.{checkJournal, Holds, InsertMeets, BackMeets, ListingNowMeets}
 

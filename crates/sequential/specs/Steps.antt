@@ -1,25 +1,26 @@
 -- The steps of the sequential run: what they check, what their state and tables hold, and what each must do. Assumes nothing.
 use mathlib.Core.Path.{_≡_}
-use mathlib.Core.Bool.{Bool, true, not, _&&_}
+use mathlib.Core.Bool.{true, not}
 use mathlib.Core.List.{List, [], _∷_}
 use Prim.Native.Nat.{ℕ, _<_}
-use lib.Dec.{eqb, leb}
-use lib.ListN.{length, getD, replicate}
+use lib.Dec.{eqb}
+use lib.ListN.{length, replicate}
 use Rattle.answers.specs.Verdict.{Verdict, accepted, refused, _then_, unless}
 use Rattle.answers.specs.Answers.{refuses, says, sayOf}
 use Rattle.answers.specs.declared.Answer.{Answer}
-use Rattle.sets.specs.Lists.{_∈_, all, below}
+use Rattle.sets.specs.Lists.{_∈_}
 use Rattle.sets.specs.Value.{noRows}
 use Rattle.percolation.specs.Links.{Link, cliques, listing}
 use Rattle.percolation.specs.Ranges.{goodCount, goodK}
 use Rattle.percolation.specs.Steps.{legal, checkInsert, accept, front, checkBack}
 use Rattle.checks.specs.Neighbours.{Neighbours, lastWeight}
-use Rattle.slots.specs.Tables.{Tables, room}
+use Rattle.slots.specs.Tables.{Tables}
 use Rattle.slots_theory.specs.Shows.{Shows}
 use Rattle.runs.specs.Lent.{level, left}
 use Rattle.listings.specs.Listing.{WritesListing}
 use Rattle.journal.specs.Journal.{whole, journalOf}
-use Rattle.sequential.specs.declared.State.{State}
+use Rattle.states.specs.declared.State.{State}
+use Rattle.states.specs.States.{goodState}
 use Rattle.sequential.specs.declared.Stepped.{Stepped}
 
 -- ---- checks
@@ -28,11 +29,6 @@ use Rattle.sequential.specs.declared.Stepped.{Stepped}
 unfoldable pub checkStart : ℕ → ℕ → Tables → List ℕ → Verdict
 unfolding goodCount goodK level unless _then_
 checkStart p k T J = unless (goodCount p) 4 0 then unless (goodK k) 10 0 then unless (level T) 11 0 then unless (whole J) 20 0
-
--- k, p and the used slots lie in their ranges, and no used one of the joining entries es is above its slot number
-unfoldable pub goodState : State → List ℕ → Bool
-unfolding goodCount goodK room all below
-goodState S es = goodK (S .k) && (goodCount (S .p) && (leb (S .used) (room es) && all (λ i. leb (getD es i 0) i) (below (S .used))))
 
 -- every step after the start begins with 11, 12; the listing now is lent no journal
 unfoldable pub checkState : State → Tables → Verdict

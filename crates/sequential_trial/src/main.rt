@@ -7,7 +7,7 @@ use console::field;
 use console::text;
 use libc::STDIN_FILENO;
 use runs::Method;
-use sequential::State;
+use states::State;
 
 // ---- a state with tables that are not its own
 

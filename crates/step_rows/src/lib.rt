@@ -3,8 +3,8 @@
 use answers::Answer;
 use console::field;
 use console::text;
-use sequential::State;
 use sequential::Stepped;
+use states::State;
 
 // Whether a step was accepted.
 fn accepted(a: Answer) -> bool {

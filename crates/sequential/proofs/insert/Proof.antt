@@ -1,10 +1,10 @@
 use native.Mathlib.Omega.{arith}
 use Rattle.sequential.proofs.Inserting.{refused-meets, taken-meets}
-use Rattle.sequential.proofs.Checking.{insert-two, insert-room, insert-parts}
+use Rattle.states.proofs.Checking.{insert-two, insert-room, insert-parts}
 use mathlib.Core.Path.{refl, sym, ap, _∙_}
 use borrow.Author.Needs.{needs}
 use Rattle.slots.specs.Tables.{tables}
-use Rattle.sequential.specs.declared.State.{State}
+use Rattle.states.specs.declared.State.{State}
 use Rattle.sequential.proofs.insert.Statement.{statement}
 use Rattle.sequential.proofs.insert.Tie as tie
 

@@ -1,9 +1,9 @@
 use Rattle.sequential.proofs.Backing.{back-refused, back-meets}
-use Rattle.sequential.proofs.Checking.{back-two, back-wide, back-within}
+use Rattle.states.proofs.Checking.{back-two, back-wide, back-within}
 use mathlib.Core.Path.{refl, sym, ap, _∙_}
 use borrow.Author.Needs.{needs}
 use Rattle.slots.specs.Tables.{tables}
-use Rattle.sequential.specs.declared.State.{State}
+use Rattle.states.specs.declared.State.{State}
 use Rattle.sequential.proofs.take_back.Statement.{statement}
 use Rattle.sequential.proofs.take_back.Tie as tie
 

@@ -1,9 +1,9 @@
-use Rattle.sequential.proofs.Checking.{step-stop, step-15, step-0}
+use Rattle.states.proofs.Checking.{step-stop, step-15, step-0}
 use native.Mathlib.Omega.{arith}
 use mathlib.Core.Path.{sym, _∙_}
 use borrow.Author.Needs.{needs}
-use Rattle.sequential.proofs.link_step.Statement.{statement}
-use Rattle.sequential.proofs.link_step.Tie as tie
+use Rattle.states.proofs.link_step.Statement.{statement}
+use Rattle.states.proofs.link_step.Tie as tie
 
 slice-aggregate-link-number : tie.Need-slice-aggregate-link-number
 slice-aggregate-link-number c = search needs

@@ -1,8 +1,8 @@
-use Rattle.sequential.proofs.Checking.{state-two, state-room, journal-good, number-stop, number-go}
+use Rattle.states.proofs.Checking.{state-two, state-room, journal-good, number-stop, number-go}
 use mathlib.Core.Path.{sym, _∙_}
 use borrow.Author.Needs.{needs}
-use Rattle.sequential.proofs.insert_number.Statement.{statement}
-use Rattle.sequential.proofs.insert_number.Tie as tie
+use Rattle.states.proofs.insert_number.Statement.{statement}
+use Rattle.states.proofs.insert_number.Tie as tie
 
 journal-number-requires : tie.Need-journal-number-requires
 journal-number-requires c κs = search needs

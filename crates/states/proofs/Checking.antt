@@ -22,9 +22,9 @@ use Rattle.search.specs.Model.{cap, addedBy}
 use Rattle.runs.specs.Lent.{lent, level}
 use Rattle.runs.proofs.Left.{level-used}
 use Rattle.journal.specs.Journal.{journalLength, whole}
-use Rattle.sequential.specs.declared.State.{State}
-use Rattle.sequential.specs.Steps.{goodState}
-use Rattle.sequential.specs.Model.{firstOf, stateNumber, linkStep, journalNumber, insertNumber, backNumber}
+use Rattle.states.specs.declared.State.{State}
+use Rattle.states.specs.States.{goodState}
+use Rattle.states.specs.Model.{firstOf, stateNumber, linkStep, journalNumber, insertNumber, backNumber}
 
 -- ---- numbers, the first that is not 0
 

@@ -1,10 +1,10 @@
 use borrow.Author.Tests.{not-true, not-false}
-use Rattle.sequential.proofs.Checking.{bad-k, bad-count, bad-used, good-used}
+use Rattle.states.proofs.Checking.{bad-k, bad-count, bad-used, good-used}
 use native.Mathlib.Omega.{arith}
 use mathlib.Core.Path.{sym, _∙_}
 use borrow.Author.Needs.{needs}
-use Rattle.sequential.proofs.good_state.Statement.{statement}
-use Rattle.sequential.proofs.good_state.Tie as tie
+use Rattle.states.proofs.good_state.Statement.{statement}
+use Rattle.states.proofs.good_state.Tie as tie
 
 good-k-requires : tie.Need-good-k-requires
 good-k-requires c κs = search needs

@@ -1,9 +1,9 @@
-use Rattle.sequential.proofs.Checking.{journal-stop, journal-20, journal-0}
+use Rattle.states.proofs.Checking.{journal-stop, journal-20, journal-0}
 use mathlib.Core.Path.{sym, _∙_}
 use borrow.Author.Tests.{not-true, not-false}
 use borrow.Author.Needs.{needs}
-use Rattle.sequential.proofs.journal_number.Statement.{statement}
-use Rattle.sequential.proofs.journal_number.Tie as tie
+use Rattle.states.proofs.journal_number.Statement.{statement}
+use Rattle.states.proofs.journal_number.Tie as tie
 
 state-number-requires : tie.Need-state-number-requires
 state-number-requires c κs = search needs

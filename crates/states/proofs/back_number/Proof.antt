@@ -1,8 +1,8 @@
-use Rattle.sequential.proofs.Checking.{back-stop, back-19, back-0}
+use Rattle.states.proofs.Checking.{back-stop, back-19, back-0}
 use mathlib.Core.Path.{sym, _∙_}
 use borrow.Author.Needs.{needs}
-use Rattle.sequential.proofs.back_number.Statement.{statement}
-use Rattle.sequential.proofs.back_number.Tie as tie
+use Rattle.states.proofs.back_number.Statement.{statement}
+use Rattle.states.proofs.back_number.Tie as tie
 
 journal-number-requires : tie.Need-journal-number-requires
 journal-number-requires c κs = search needs

@@ -1,9 +1,9 @@
 use borrow.Author.Tests.{not-true, not-false}
-use Rattle.sequential.proofs.Checking.{state-11, state-12, state-0}
+use Rattle.states.proofs.Checking.{state-11, state-12, state-0}
 use mathlib.Core.Path.{sym, _∙_}
 use borrow.Author.Needs.{needs}
-use Rattle.sequential.proofs.state_number.Statement.{statement}
-use Rattle.sequential.proofs.state_number.Tie as tie
+use Rattle.states.proofs.state_number.Statement.{statement}
+use Rattle.states.proofs.state_number.Tie as tie
 
 level-requires : tie.Need-level-requires
 level-requires c κs = search needs
