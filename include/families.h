@@ -18,12 +18,14 @@
  * number 0 is accepted. Any other number is a refusal, which writes no output:
  *    1 mark                2 version             3 length               4 part count not 1 to 64
  *    5 a name's form       6 a link's parts      7 weight 0             8 weight above the link before
- *    9 pair given before  10 k not 2 to 6       11 tables of unequal length
+ *    9 pair given before  10 k not 2 to 6       11 tables, or the clique list, of unequal length
  *   12 a state outside its ranges               13 a set that is no k-clique of the sheet (families_family_mean: at t)
- *   14 a part not below the part count          15 too few slots        16 an output too short
+ *   14 a part not below the part count          15 too few slots, or too short a clique list
+ *   16 an output too short
  *   17 a dump's mark, version or length         18 a row with a part not below the part count
  *   19 a state with no link to take back        20 a journal of other than 2,016 entries
- *   21 a name equal to an earlier one
+ *   21 a name equal to an earlier one           22 a product with k above 4
+ *   23 a threshold that is not a number
  * Every name passes 5 before 21 is told, and 21 comes before the first link or row.
  * place is a byte of the sheet for 1 to 9 and 21 of a call that reads a sheet, a byte of the dump for 4, 5, 17, 18 and 21
  * of families_dump_sheet, else 0. Where it is a byte, for 5 and 21 it is the first of the name, for 21 of the later one.
@@ -39,7 +41,7 @@ extern "C" {
 #endif
 
 /* The number of the latest change request that has landed, in order of landing; 0: the base. */
-#define FAMILIES_EDITION 5
+#define FAMILIES_EDITION 6
 
 /* On a refusal count and parts are 0. parts is 0 from every call but families_read. */
 typedef struct {
@@ -164,6 +166,39 @@ families_outcome families_listing_sequential(
 
 families_outcome families_listing_maximal(
     const uint8_t *sheet, size_t sheet_length, size_t k, uint16_t t,
+    uint64_t *sets, size_t sets_length,
+    uint32_t *entries, size_t entries_length,
+    uint64_t *smallest, size_t smallest_length,
+    uint64_t *unions, size_t unions_length,
+    uint8_t *out, size_t out_length);
+
+/*
+ * The listing of the k-cliques at or above a threshold, by the weakest link of each clique or by the product of its link
+ * weights. The product is the double got by multiplying from left to right, pairs by lower then higher part, each product
+ * rounded once; any threshold but a NaN is a number, infinities too. By the weakest link it is the listing at t.
+ * The rounding direction must be to nearest, C's default.
+ *
+ * The clique list is lent: sets and products, two slices of one length. All k-cliques of the sheet are stored in it, so it must
+ * be as long as their number; slots are needed for those at or above the threshold alone. families_subset_count(p, k) says how
+ * long a list suffices. Its contents before the call do not matter.
+ * Refused in this order: the sheet (1 to 9, 21), 10, 22 and 23 (by the product only), 11, 15, 16. Up to 11 nothing is written;
+ * from 15 on, success too, tables and clique list are zero. count = communities. C cuts a uint16_t threshold above 65,535
+ * silently.
+ */
+families_outcome families_listing_weakest(
+    const uint8_t *sheet, size_t sheet_length, size_t k, uint16_t t,
+    uint64_t *cliques, size_t cliques_length,
+    double *products, size_t products_length,
+    uint64_t *sets, size_t sets_length,
+    uint32_t *entries, size_t entries_length,
+    uint64_t *smallest, size_t smallest_length,
+    uint64_t *unions, size_t unions_length,
+    uint8_t *out, size_t out_length);
+
+families_outcome families_listing_product(
+    const uint8_t *sheet, size_t sheet_length, size_t k, double t,
+    uint64_t *cliques, size_t cliques_length,
+    double *products, size_t products_length,
     uint64_t *sets, size_t sets_length,
     uint32_t *entries, size_t entries_length,
     uint64_t *smallest, size_t smallest_length,

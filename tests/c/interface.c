@@ -11,6 +11,8 @@ enum { SLOTS = 7, P9_SLOTS = 22, OUT = 128, JOURNAL = 2016 };
 static uint64_t sets[P9_SLOTS], smallest[P9_SLOTS], unions[P9_SLOTS], journal[JOURNAL];
 static uint32_t entries[P9_SLOTS];
 static uint8_t sheet[OUT], out[OUT];
+static double products[P9_SLOTS];
+static uint64_t cliques[P9_SLOTS];
 
 /* Parts 0, 1, 2 and parts 2, 3, 4 at weight 4, and the link that joins both triangles at weight 2. */
 static const uint8_t names[] = "LOCK    MOTOR   BOARD   COIL    DOOR    ";
@@ -19,6 +21,7 @@ static const uint16_t higher[] = {1, 2, 2, 3, 4, 4, 3};
 static const uint16_t weights[] = {4, 4, 4, 4, 4, 4, 2};
 
 #define TABLES(n) sets, (n), entries, (n), smallest, (n), unions, (n)
+#define LIST(n) cliques, (n), products, (n)
 #define STEP(n) TABLES(n), journal, JOURNAL
 
 static void show(const char *call, families_outcome o)
@@ -178,6 +181,27 @@ static void on_sheet(size_t length)
     show("a pair given before", families_listing_sequential(sheet, length, 3, 4, TABLES(SLOTS), out, sizeof out));
 }
 
+/* P8 has the triangles 7 and 28 of product 64, and 14 of product 32. */
+static void strong(size_t length)
+{
+    families_outcome o = families_listing_weakest(sheet, length, 3, 4, LIST(3), TABLES(SLOTS), out, sizeof out);
+    show("listing, weakest link 4", o);
+    communities(o.count);
+    o = families_listing_product(sheet, length, 3, 64.0, LIST(3), TABLES(SLOTS), out, sizeof out);
+    show("listing, product 64", o);
+    communities(o.count);
+    o = families_listing_product(sheet, length, 3, 32.0, LIST(3), TABLES(SLOTS), out, sizeof out);
+    show("listing, product 32", o);
+    communities(o.count);
+    show("listing, a clique too few", families_listing_product(sheet, length, 3, 64.0, LIST(2), TABLES(SLOTS), out, sizeof out));
+    show("listing, product, k 5", families_listing_product(sheet, length, 5, 64.0, LIST(3), TABLES(SLOTS), out, sizeof out));
+    show("listing, weakest link, k 5", families_listing_weakest(sheet, length, 5, 4, LIST(3), TABLES(SLOTS), out, sizeof out));
+    double none = 0.0;
+    show("listing, no number", families_listing_product(sheet, length, 3, none / none, LIST(3), TABLES(SLOTS), out, sizeof out));
+    show("listing, unequal list",
+         families_listing_product(sheet, length, 3, 64.0, cliques, 3, products, 2, TABLES(SLOTS), out, sizeof out));
+}
+
 static void show_mean(const char *call, families_mean m)
 {
     show(call, m.outcome);
@@ -212,6 +236,7 @@ int main(void)
     show("start, an entry short", families_start(5, 3, TABLES(SLOTS), journal, JOURNAL - 1).outcome);
     taken_back(steps(SLOTS));
     steps(SLOTS - 1);
+    strong(length);
     on_sheet(length);
     means();
     return 0;

@@ -13,6 +13,8 @@ pub enum Order {
     Listing(usize, u16),
     ByMean(usize, u16),
     Mean(usize, u16),
+    Weakest(usize, u16),
+    Product(usize, usize),
     Tree(usize),
     Meet(usize, usize),
     Slots(usize),
@@ -143,6 +145,45 @@ fn mean(count: usize) -> Order {
     }
 }
 
+fn by_weakest() -> Order {
+    match k_and_t(2, 4) {
+        KT::Are(k, t) => Order::Weakest(k, t),
+        KT::Not => Order::Nothing,
+    }
+}
+
+// The number typed; where it is none, one above the largest X.
+fn whole(x: Number) -> usize {
+    match x {
+        Number::Is(x) => x,
+        Number::Not => 9007199254740993,
+    }
+}
+
+// Up to 2^53 a float holds each whole number.
+fn by_product() -> Order {
+    let Number::Is(k) = k_at(2) else {
+        return Order::Nothing;
+    };
+    let x = whole(number_at(4));
+    if 9007199254740992 < x {
+        return nothing(b"X must be a whole number, 0 to 9007199254740992");
+    }
+    Order::Product(k, x)
+}
+
+fn strong(count: usize) -> Order {
+    if count == 6 {
+        if is_word(3, b"product") {
+            return by_product();
+        }
+        if is_word(3, b"weakest") {
+            return by_weakest();
+        }
+    }
+    nothing(b"strong takes K, product X or weakest T, and a sheet")
+}
+
 fn tree(count: usize) -> Order {
     if count != 4 {
         return nothing(b"tree takes K and a sheet");
@@ -206,6 +247,9 @@ fn command(word: &[u8], count: usize) -> Order {
     }
     if same(word, b"mean") {
         return mean(count);
+    }
+    if same(word, b"strong") {
+        return strong(count);
     }
     if same(word, b"tree") {
         return tree(count);

@@ -23,6 +23,8 @@ fn answer(order: Order, s: &[u8]) {
         Order::Listing(k, t) => ask(Call::Listing(k, t), s),
         Order::ByMean(k, t) => ask(Call::ByMean(k, t), s),
         Order::Mean(k, t) => means::mean(s, k, t),
+        Order::Weakest(k, t) => strong::weakest(s, k, t),
+        Order::Product(k, x) => strong::product(s, k, x),
         Order::Tree(k) => ask(Call::Tree(k), s),
         Order::Meet(k, middle) => meet::meet(s, k, middle),
         Order::Slots(k) => report::slots(s, k),

@@ -19,7 +19,7 @@ fn digit(b: u8) -> usize
     (b - b'0') as usize
 }
 
-// The number of a word of digits; none above 1,000,000,009.
+// The number of a word of digits; none above 9,007,199,254,740,999.
 pub fn decimal(word: &[u8]) -> Number {
     if word.len() == 0 {
         return Number::Not;
@@ -31,7 +31,7 @@ pub fn decimal(word: &[u8]) -> Number {
         if d == 10 {
             return Number::Not;
         }
-        if 100000000 < n {
+        if 900719925474099 < n {
             return Number::Not;
         }
         n = 10 * n + d;

@@ -9,6 +9,8 @@ fn lines(fd: i32) {
     io::write_all(fd, b"  families show SHEET\n");
     io::write_all(fd, b"  families listing [--by-mean] K T SHEET\n");
     io::write_all(fd, b"  families mean K T NAME.. SHEET\n");
+    io::write_all(fd, b"  families strong K product X SHEET\n");
+    io::write_all(fd, b"  families strong K weakest T SHEET\n");
     io::write_all(fd, b"  families tree K SHEET\n");
     io::write_all(fd, b"  families meet K NAME.. -- NAME.. SHEET\n");
     io::write_all(fd, b"  families slots K SHEET\n");

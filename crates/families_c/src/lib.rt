@@ -20,6 +20,8 @@ ghost use Rattle.meeting.specs.Answers.{meetSays, MeetingMeets};
 ghost use Rattle.mean.specs.Answers.{meanSays, MeanMeets};
 ghost use Rattle.meeting_maximal.specs.Fits.{levelsFit};
 ghost use Rattle.merge_tree.specs.OnSheet.{TreeMeets};
+ghost use Rattle.products.specs.declared.Measure.the-variants.{Weakest, Product};
+ghost use Rattle.strength.specs.OnSheet.{cliqueList, StrengthMeets};
 ghost use Rattle.outcomes.specs.Outcomes.{outcome, shown, sheetShown, meetShown, meanShown, Shows, ShowsMeeting, ShowsMean, ShowsStep};
 use outcomes::Mean;
 use outcomes::Outcome;
@@ -31,6 +33,7 @@ use outcomes::of_meeting;
 use outcomes::of_name;
 use outcomes::of_sheet;
 use outcomes::of_step;
+use products::Measure;
 use runs::Method;
 use states::State;
 
@@ -216,6 +219,68 @@ pub extern "C" fn families_listing_maximal(
         sheet,
         k,
         t,
+        sets,
+        entries,
+        smallest,
+        unions,
+        out,
+    ))
+}
+
+// strength::listing by the weakest link: count is the communities.
+#[no_mangle]
+pub extern "C" fn families_listing_weakest(
+    sheet: &[u8],
+    k: usize,
+    t: u16,
+    cliques: &mut [u64],
+    products: &mut [f64],
+    sets: &mut [u64],
+    entries: &mut [u32],
+    smallest: &mut [u64],
+    unions: &mut [u64],
+    out: &mut [u8],
+) -> Outcome
+    ensures { λ r. ⌜ Shows (λ a. StrengthMeets (now (sheet .entry)) k (Weakest t) (cliqueList (now (cliques .entry)) (now (products .entry))) (lent (now (sets .entry)) (now (entries .entry)) (now (smallest .entry)) (now (unions .entry))) (now (out .entry)) a (cliqueList (now (cliques .exit)) (now (products .exit))) (lent (now (sets .exit)) (now (entries .exit)) (now (smallest .exit)) (now (unions .exit))) (now (out .exit))) r ⌝ }
+{
+    let measure = Measure::Weakest(t);
+    of_answer(strength::listing(
+        sheet,
+        k,
+        measure,
+        cliques,
+        products,
+        sets,
+        entries,
+        smallest,
+        unions,
+        out,
+    ))
+}
+
+// strength::listing by the product: count is the communities.
+#[no_mangle]
+pub extern "C" fn families_listing_product(
+    sheet: &[u8],
+    k: usize,
+    t: f64,
+    cliques: &mut [u64],
+    products: &mut [f64],
+    sets: &mut [u64],
+    entries: &mut [u32],
+    smallest: &mut [u64],
+    unions: &mut [u64],
+    out: &mut [u8],
+) -> Outcome
+    ensures { λ r. ⌜ Shows (λ a. StrengthMeets (now (sheet .entry)) k (Product t) (cliqueList (now (cliques .entry)) (now (products .entry))) (lent (now (sets .entry)) (now (entries .entry)) (now (smallest .entry)) (now (unions .entry))) (now (out .entry)) a (cliqueList (now (cliques .exit)) (now (products .exit))) (lent (now (sets .exit)) (now (entries .exit)) (now (smallest .exit)) (now (unions .exit))) (now (out .exit))) r ⌝ }
+{
+    let measure = Measure::Product(t);
+    of_answer(strength::listing(
+        sheet,
+        k,
+        measure,
+        cliques,
+        products,
         sets,
         entries,
         smallest,

@@ -1,9 +1,8 @@
 -- The maximal-clique run on links of parts below p, of which R are the rows of neighbours: 15 by their maximal cliques, and what stands in the rows of
 -- the classes is the listing. Assumes nothing.
-use mathlib.Core.Path.{_≡_, sym, ap, ap₂, _∙_, subst, subst⁻¹}
-use mathlib.Core.Logic.{_⊎_, inl, inr}
+use mathlib.Core.Path.{_≡_, sym, ap, _∙_, subst, subst⁻¹}
 use mathlib.Core.Bool.{true, false}
-use mathlib.Core.List.{List, [], map, Memᴰ·cast, Memᴰ·map, Memᴰ·of-map}
+use mathlib.Core.List.{List, [], Memᴰ·cast, Memᴰ·map, Memᴰ·of-map}
 use Prim.Native.Nat.{ℕ, _≤_, _<_, _^_}
 use native.Mathlib.Omega.{arith}
 use lib.Dec.{leb}
@@ -12,7 +11,6 @@ use borrow.Author.Tests.{le-leb, lt-leb}
 use Rattle.sets.specs.Lists.{_∈_, below}
 use Rattle.sets.specs.Sets.{size}
 use Rattle.sets.specs.Value.{width, rows, row}
-use Rattle.sets.proofs.Tests.{lt-or-le}
 use Rattle.sets.proofs.ListLaws.{Holds, below-of, below-at}
 use Rattle.percolation.specs.Percolate.{communities}
 use Rattle.percolation.specs.Links.{Link, cliques, maximals}
@@ -24,7 +22,7 @@ use Rattle.listings.specs.Model.{standsAt, listed}
 use Rattle.listings.proofs.Listed.{listed-of, listed-at, listed-same}
 use Rattle.maximal_search.specs.Model.{maximalsBy, Found, found, foundAll}
 use Rattle.maximal_search.proofs.Maxima.{maxima-of, maxima-at, maxima-count, maxima-fits}
-use Rattle.maximal_search.proofs.FoundSets.{found-count, found-full, found-rows, found-rows-kept}
+use Rattle.maximal_search.proofs.FoundSets.{found-rows-kept, filled-many, filled-few, filled-rows}
 use Rattle.overlaps.specs.Model.{Classed, classed, classedAll, firstRows}
 use Rattle.overlaps.proofs.Frontier.{classes-show, classes-all, classes-apart}
 use Rattle.overlaps.proofs.Showing.{shows-members}
@@ -41,34 +39,18 @@ module _ (L : List Link) (p k r c : ℕ) (R T S : List ℕ) (links : legal p L �
 
   -- ---- 15
 
-  few : c ≤ r → length M ≤ r
-  few h = go (lt-or-le r (length M))
-    where
-      go : (r < length M) ⊎ (length M ≤ r) → length M ≤ r
-      go (inl l) = absurd (omega (arith, found-full r T M l, ap (λ (f : Found). f .count) filled))
-      go (inr l) = l
-
-  all-in : length M ≤ r → c ≡ length M
-  all-in h = ap (λ (f : Found). f .count) filled ∙ found-count r T M h
-
   pub too-many : r < c → leb (length (maximals L p k)) r ≡ false
-  too-many h = go (lt-or-le r (length M))
-    where
-      go : (r < length M) ⊎ (length M ≤ r) → leb (length (maximals L p k)) r ≡ false
-      go (inl l) = lt-leb (length (maximals L p k)) r (omega (arith, count))
-      go (inr l) = absurd (omega (arith, all-in l))
+  too-many h = lt-leb (length (maximals L p k)) r (omega (arith, filled-many r c T S M filled h, count))
 
   -- ---- the classes, where the three tables have the room
 
   module _ (h : c ≤ r) where
     pub all-fit : leb (length (maximals L p k)) r ≡ true
-    all-fit = le-leb (length (maximals L p k)) r (omega (arith, few h, count))
+    all-fit = le-leb (length (maximals L p k)) r (omega (arith, filled-few r c T S M filled h, count))
 
     module _ (one : 1 ≤ k) (smallest unions : List ℕ) (roomT : r ≤ rows T) (roomM : r ≤ rows smallest) (roomU : r ≤ rows unions) where
       first-rows : firstRows c S ≡ M
-      first-rows =
-          ap₂ (λ (j : ℕ) (A : List ℕ). map (row A) (below j)) (all-in (few h)) (ap (λ (f : Found). f .sets) filled)
-          ∙ found-rows r T M (few h) roomT (maxima-fits L p R links wide near k)
+      first-rows = filled-rows r c T S M filled h roomT (maxima-fits L p R links wide near k)
 
       module _ (A ms us : List ℕ) (g : ℕ) (sorted : classed A ms us g ≡ classedAll k c S smallest unions) where
         to-m : (x : ℕ) → x ∈ firstRows c S → x ∈ M

@@ -87,7 +87,7 @@ module _ (p : ℕ) (L : List Link) (l : Link) (a : ℕ) where
 abbrev fits : ℕ → Link → Bool
 fits p l = goodParts p l && leb 1 (l .weight)
 
-abbrev falls : Link → Link → Bool
+abbrev pub falls : Link → Link → Bool
 falls l m = leb (m .weight) (l .weight)
 
 abbrev apart : Link → Link → Bool
@@ -97,7 +97,7 @@ legal-fits : (p : ℕ) (L : List Link) → legal p L ≡ true → all (fits p) L
 unfolding legal
 legal-fits p L t = and-left (all (fits p) L) (eachTwo falls L && eachTwo apart L) t
 
-legal-falls : (p : ℕ) (L : List Link) → legal p L ≡ true → eachTwo falls L ≡ true
+pub legal-falls : (p : ℕ) (L : List Link) → legal p L ≡ true → eachTwo falls L ≡ true
 unfolding legal
 legal-falls p L t = and-left (eachTwo falls L) (eachTwo apart L) (and-right (all (fits p) L) (eachTwo falls L && eachTwo apart L) t)
 

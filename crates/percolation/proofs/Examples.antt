@@ -15,6 +15,7 @@ use Rattle.percolation.specs.Levels.{Meeting, met, never, meeting}
 use Rattle.percolation.specs.Steps.{Step, insert, back, remainingLinks, stepAnswers}
 use Rattle.percolation.specs.Tree.{Line, line, tree, treeBytes}
 use Rattle.percolation.specs.Mean.{familyLinks, Mean, mean, meanOf}
+use Rattle.percolation.specs.Strength.{weightsIn, weakestOf, byWeakest, strong}
 use Rattle.percolation.specs.Examples.{Asked, lists, meets, needs, gets, leaves, grows, weighs, Row, Says, RowHolds, table, sheet1, sheet5, sheet8, sheet9, sheet10}
 
 -- ---- the test
@@ -183,3 +184,23 @@ apart5 = refl
 pub apart10 : joinedBy (overlap 4) (maximals sheet10 6 4) 15 60 ≡ false
 unfolding joinedBy overlap maximals
 apart10 = refl
+
+-- the weights of cliques by lower then higher part, of P1 and of four parts with six weights; the weakest link, which need not be the first
+abbrev sheet-four : List Link
+sheet-four = link 2 3 9 ∷ link 1 3 8 ∷ link 1 2 7 ∷ link 0 3 6 ∷ link 0 2 5 ∷ link 0 1 4 ∷ []
+
+pub weights1 : weightsIn sheet1 4 7 ≡ 9 ∷ 9 ∷ 8 ∷ []
+unfolding weightsIn
+weights1 = refl
+
+pub weights-four : weightsIn sheet-four 4 15 ≡ 4 ∷ 5 ∷ 6 ∷ 7 ∷ 8 ∷ 9 ∷ []
+unfolding weightsIn
+weights-four = refl
+
+pub weakest1 : weakestOf (weightsIn sheet1 4 14) ≡ 5
+unfolding weakestOf weightsIn
+weakest1 = refl
+
+pub strong1 : strong sheet1 4 3 (byWeakest sheet1 4 8) ≡ 7 ∷ []
+unfolding strong byWeakest
+strong1 = refl

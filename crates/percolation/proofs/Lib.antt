@@ -14,5 +14,6 @@ pub mod NewLink
 pub mod Ranges
 pub mod Same
 pub mod SlotCount
+pub mod Strength
 pub mod Sums
 pub mod Tree

@@ -5,5 +5,6 @@ pub mod Mean
 pub mod Percolate
 pub mod Ranges
 pub mod Steps
+pub mod Strength
 pub mod Tree
 pub mod Weights

@@ -17,6 +17,7 @@ pub use limits::SLOTS;
 pub use line_fault::line_words;
 pub use listing::families;
 pub use listing::families_now;
+pub use listing::strong_families;
 pub use means::by_mean;
 pub use means::mean;
 pub use names::find;

@@ -76,6 +76,14 @@ pub fn families(s: &[u8], k: usize, t: u16, out: &[u8], n: usize) {
     after_head(s, out, n);
 }
 
+// A listing's families by clique strength: the measure in words, and its threshold.
+pub fn strong_families(s: &[u8], k: usize, measure: &[u8], x: usize, out: &[u8], n: usize) {
+    head(n, b"family", b"families", k);
+    field(measure, x);
+    text(b" or more");
+    after_head(s, out, n);
+}
+
 // The families of the links so far, which have no threshold. False where standard output takes no more.
 pub fn families_now(s: &[u8], k: usize, out: &[u8], n: usize) -> bool {
     head(n, b"family", b"families", k);

@@ -1,10 +1,10 @@
 //! Communities of a sheet: listings, meeting weights, mean link weights and
 //! the merge tree.
 
-use crate::lent::{self, Run};
+use crate::lent::{self, Measure, Run};
 use crate::refused::Refused;
 use crate::sheet::claimed_parts;
-use crate::tables::{slot_bound_or_none, Space, Tables};
+use crate::tables::{slot_bound_or_none, Cliques, Space, Tables};
 
 const LISTING_BYTES: usize = 16;
 const LINE_BYTES: usize = 26;
@@ -107,6 +107,26 @@ pub fn listing(
     let most = most_communities(slot_bound_or_none(p, k), k).min(slots);
     let mut out = listing_space(most);
     let outcome = lent::listing(run, sheet, k, t, tables.as_mut(), &mut out).accepted()?;
+    Ok(listing_in(out, outcome.count))
+}
+
+/// The communities of the k-cliques at or above a measure's threshold. All
+/// k-cliques of the sheet are stored, at most `most_cliques` of them: a sheet
+/// with more is refused (15).
+pub fn strong_listing(
+    sheet: &[u8],
+    k: usize,
+    measure: Measure,
+    most_cliques: usize,
+    space: Space,
+) -> Result<Vec<Community>, Refused> {
+    let p = claimed_parts(sheet);
+    let mut cliques = Cliques::new(lent::subset_count(p, k).count.min(most_cliques));
+    let slots = space.slots(Run::Sequential, p, k);
+    let mut tables = Tables::new(slots);
+    let mut out = listing_space(most_communities(slots, k));
+    let (list, tables) = (cliques.as_mut(), tables.as_mut());
+    let outcome = lent::strong_listing(sheet, k, measure, list, tables, &mut out).accepted()?;
     Ok(listing_in(out, outcome.count))
 }
 

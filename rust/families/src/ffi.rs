@@ -190,6 +190,48 @@ extern "C" {
         out_length: usize,
     ) -> Outcome;
 
+    pub fn families_listing_weakest(
+        sheet: *const u8,
+        sheet_length: usize,
+        k: usize,
+        t: u16,
+        cliques: *mut u64,
+        cliques_length: usize,
+        products: *mut f64,
+        products_length: usize,
+        sets: *mut u64,
+        sets_length: usize,
+        entries: *mut u32,
+        entries_length: usize,
+        smallest: *mut u64,
+        smallest_length: usize,
+        unions: *mut u64,
+        unions_length: usize,
+        out: *mut u8,
+        out_length: usize,
+    ) -> Outcome;
+
+    pub fn families_listing_product(
+        sheet: *const u8,
+        sheet_length: usize,
+        k: usize,
+        t: f64,
+        cliques: *mut u64,
+        cliques_length: usize,
+        products: *mut f64,
+        products_length: usize,
+        sets: *mut u64,
+        sets_length: usize,
+        entries: *mut u32,
+        entries_length: usize,
+        smallest: *mut u64,
+        smallest_length: usize,
+        unions: *mut u64,
+        unions_length: usize,
+        out: *mut u8,
+        out_length: usize,
+    ) -> Outcome;
+
     pub fn families_meeting_sequential(
         sheet: *const u8,
         sheet_length: usize,

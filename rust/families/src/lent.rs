@@ -7,7 +7,7 @@
 
 use crate::ffi;
 use crate::refused::Refused;
-use crate::tables::{TablesMut, TablesRef};
+use crate::tables::{CliquesMut, TablesMut, TablesRef};
 
 pub use crate::ffi::{Mean, Outcome, Started, State};
 
@@ -16,6 +16,16 @@ pub use crate::ffi::{Mean, Outcome, Started, State};
 pub enum Run {
     Sequential,
     Maximal,
+}
+
+/// What a clique is measured by, with the threshold that it must reach.
+#[derive(Clone, Copy, Debug, PartialEq)]
+pub enum Measure {
+    /// The weight of its weakest link.
+    Weakest(u16),
+    /// The product of its link weights as a float, pairs by lower then higher
+    /// part, each product rounded once. For k 2 to 4.
+    Product(f64),
 }
 
 impl Outcome {
@@ -219,6 +229,48 @@ pub fn listing(
             out.as_mut_ptr(),
             out.len(),
         )
+    }
+}
+
+/// The listing of a sheet by clique strength; `count` is the number of
+/// communities.
+pub fn strong_listing(
+    sheet: &[u8],
+    k: usize,
+    measure: Measure,
+    cliques: CliquesMut,
+    tables: TablesMut,
+    out: &mut [u8],
+) -> Outcome {
+    macro_rules! call {
+        ($function:ident, $threshold:expr) => {
+            unsafe {
+                ffi::$function(
+                    sheet.as_ptr(),
+                    sheet.len(),
+                    k,
+                    $threshold,
+                    cliques.sets.as_mut_ptr(),
+                    cliques.sets.len(),
+                    cliques.products.as_mut_ptr(),
+                    cliques.products.len(),
+                    tables.sets.as_mut_ptr(),
+                    tables.sets.len(),
+                    tables.entries.as_mut_ptr(),
+                    tables.entries.len(),
+                    tables.smallest.as_mut_ptr(),
+                    tables.smallest.len(),
+                    tables.unions.as_mut_ptr(),
+                    tables.unions.len(),
+                    out.as_mut_ptr(),
+                    out.len(),
+                )
+            }
+        };
+    }
+    match measure {
+        Measure::Weakest(t) => call!(families_listing_weakest, t),
+        Measure::Product(t) => call!(families_listing_product, t),
     }
 }
 

@@ -1,6 +1,6 @@
-//! Families of parts that fail together: link sheets, k-clique percolation,
-//! meeting weights, mean link weights and the merge tree, by the proved
-//! library behind its C interface.
+//! Families of parts that fail together: link sheets, k-clique percolation by
+//! link weights or by clique strength, meeting weights, mean link weights and
+//! the merge tree, by the proved library behind its C interface.
 //!
 //! The functions here make their own tables and outputs; those of [`lent`]
 //! take the caller's. A refusal is [`Refused`], with a number, a place and a
@@ -15,13 +15,16 @@ mod sheet;
 mod tables;
 
 pub use communities::{
-    decode_listing, decode_tree, listing, mean, meeting, tree, Community, Line, MeanWeight, Meeting,
+    decode_listing, decode_tree, listing, mean, meeting, strong_listing, tree, Community, Line,
+    MeanWeight, Meeting,
 };
-pub use lent::Run;
+pub use lent::{Measure, Run};
 pub use refused::Refused;
 pub use sequential::Sequential;
 pub use sheet::{from_dump, name, read, write, Network};
-pub use tables::{Space, Tables, TablesMut, TablesRef, JOURNAL_ENTRIES, MOST_SLOTS};
+pub use tables::{
+    Cliques, CliquesMut, Space, Tables, TablesMut, TablesRef, JOURNAL_ENTRIES, MOST_SLOTS,
+};
 
 /// The most slots that the sequential run can need for p parts: C(p, k-1),
 /// or none where p is below k.

@@ -11,7 +11,7 @@ pub struct Refused {
     pub place: usize,
 }
 
-const SENTENCES: [&str; 21] = [
+const SENTENCES: [&str; 23] = [
     "mark: under 3 bytes or not PLS",
     "version: under 5 bytes or not 1",
     "length: under 8 bytes or not 8 + 8p + 4m; \
@@ -23,19 +23,21 @@ const SENTENCES: [&str; 21] = [
     "weight above the link before",
     "pair given before",
     "k outside 2 to 6",
-    "tables of unequal length",
+    "tables of unequal length, or a clique list of unequal lengths",
     "a state whose k, p or used slots lie outside their ranges, \
      or a used joining entry above its slot number",
     "a set that is no k-clique of the whole sheet; \
      for a mean link weight: of the links of weight t or more",
     "a name asked for a part not below p",
-    "too few slots",
+    "too few slots, or a clique list too short",
     "an output is shorter than its part of the answer",
     "a dump's mark is not PRD, its version not 1, or its length not 8 + 8p + 8n",
     "a dump's row has a part not below p",
     "a state with no link to take back",
     "a journal of other than 2,016 entries",
     "a name equal to an earlier one",
+    "a product with k above 4",
+    "a threshold that is not a number",
 ];
 
 impl Refused {

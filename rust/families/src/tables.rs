@@ -1,4 +1,5 @@
-//! The four tables that the runs work in, and the length of a journal.
+//! The four tables that the runs work in, the clique list, and the length of a
+//! journal.
 
 use crate::lent::{self, Run};
 
@@ -52,6 +53,36 @@ pub struct TablesRef<'a> {
     pub entries: &'a [u32],
     pub smallest: &'a [u64],
     pub unions: &'a [u64],
+}
+
+/// The clique list, borrowed for a call that writes it.
+#[derive(Debug)]
+pub struct CliquesMut<'a> {
+    pub sets: &'a mut [u64],
+    pub products: &'a mut [f64],
+}
+
+/// Room for k-cliques and their products, as many of the one as of the other.
+#[derive(Clone, Debug, PartialEq)]
+pub struct Cliques {
+    sets: Vec<u64>,
+    products: Vec<f64>,
+}
+
+impl Cliques {
+    pub fn new(cliques: usize) -> Cliques {
+        Cliques {
+            sets: vec![0; cliques],
+            products: vec![0.0; cliques],
+        }
+    }
+
+    pub fn as_mut(&mut self) -> CliquesMut<'_> {
+        CliquesMut {
+            sets: &mut self.sets,
+            products: &mut self.products,
+        }
+    }
 }
 
 /// Four tables of one length.

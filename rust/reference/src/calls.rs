@@ -9,6 +9,7 @@ use crate::dumps::{counted, parse_dump};
 use crate::fast::{self, Clique};
 use crate::network::{levels, listing_bytes, tree_bytes, Community, Mean, Network};
 use crate::sheets::{demand, good_part_count, parse, parse_lists, sheet_bytes, Refusal};
+use crate::strength::{pair_weights, Measure};
 
 /// No run uses more slots than this.
 pub const MOST_SLOTS: usize = 16_777_216;
@@ -199,6 +200,7 @@ pub struct Facts<'a> {
     network: &'a Network,
     k: usize,
     cliques: Vec<Clique>,
+    weights: OnceCell<Vec<Vec<u16>>>,
     at: RefCell<HashMap<usize, Rc<AtThreshold>>>,
     maximal: RefCell<HashMap<u16, (usize, usize)>>,
 }
@@ -209,6 +211,7 @@ impl<'a> Facts<'a> {
             network,
             k,
             cliques: fast::cliques(&network.links, network.names.len(), k),
+            weights: OnceCell::new(),
             at: RefCell::default(),
             maximal: RefCell::default(),
         }
@@ -258,6 +261,27 @@ impl<'a> Facts<'a> {
         let at = self.at(t);
         let means = || fast::means(&self.network.links, self.cliques_at(t));
         at.means.get_or_init(means).get(&clique).copied()
+    }
+
+    /// The link weights of each of the k-cliques, pairs by lower then higher
+    /// part.
+    pub fn weights(&self) -> &[Vec<u16>] {
+        self.weights.get_or_init(|| {
+            let weights = fast::weights(&self.network.links);
+            let of = |clique: &Clique| pair_weights(&weights, clique.set);
+            self.cliques.iter().map(of).collect()
+        })
+    }
+
+    /// The classes of the k-cliques at or above a measure's threshold.
+    pub fn strong(&self, measure: Measure) -> fast::Classes {
+        let mut classes = fast::Classes::default();
+        for (clique, weights) in self.cliques.iter().zip(self.weights()) {
+            if measure.reached(weights) {
+                classes.add(clique.set);
+            }
+        }
+        classes
     }
 
     /// How many maximal cliques there are at t; above `stop`, only that they
@@ -411,6 +435,49 @@ impl JudgeK<'_> {
             Err(refusal) => Expected::refused(refusal, Left::Zero),
             Ok(()) => {
                 let listing = facts.listing(t);
+                Expected::written(listing.len(), listing_bytes(&listing), out, Left::Zero)
+            }
+        }
+    }
+
+    /// The checks of a strong listing up to 11, with the lengths of the clique
+    /// list and the tables.
+    fn until_list(
+        &self,
+        measure: Measure,
+        list: [usize; 2],
+        tables: [usize; 4],
+    ) -> Result<&Facts<'_>, Refusal> {
+        let network = self.judge.network()?;
+        demand(good_k(self.k), 10, 0)?;
+        if let Measure::Product(t) = measure {
+            demand(self.k <= 4, 22, 0)?;
+            demand(!t.is_nan(), 23, 0)?;
+        }
+        demand(list[0] == list[1] && level(tables), 11, 0)?;
+        Ok(self.facts.get_or_init(|| Facts::new(network, self.k)))
+    }
+
+    /// A listing by clique strength; the clique list is left as the tables
+    /// are.
+    pub fn strong_listing(
+        &self,
+        measure: Measure,
+        list: [usize; 2],
+        tables: [usize; 4],
+        out: usize,
+    ) -> Expected {
+        let facts = match self.until_list(measure, list, tables) {
+            Err(refusal) => return Expected::refused(refusal, Left::Untouched),
+            Ok(facts) => facts,
+        };
+        let classes = facts.strong(measure);
+        let fits =
+            facts.cliques().len() <= list[0] && classes.slot_count() <= tables[0].min(MOST_SLOTS);
+        match demand(fits, 15, 0) {
+            Err(refusal) => Expected::refused(refusal, Left::Zero),
+            Ok(()) => {
+                let listing = classes.listing();
                 Expected::written(listing.len(), listing_bytes(&listing), out, Left::Zero)
             }
         }

@@ -8,6 +8,7 @@
 //! - [`calls`], [`sheets`], [`steps`]: every check in its order, and so the
 //!   expected answer, output, tables and journal of every call.
 //! - [`dumps`]: the sheet of a sensor dump.
+//! - [`strength`]: the weakest link and the product of a clique.
 //! - [`published`]: published networks with their expected families.
 
 pub mod calls;
@@ -20,3 +21,4 @@ pub mod published;
 pub mod random;
 pub mod sheets;
 pub mod steps;
+pub mod strength;

@@ -9,6 +9,7 @@ use reference::published::plain_names;
 use reference::random::Random;
 use reference::sheets::{good_names, parse, parse_lists, sheet_bytes, LinksSoFar};
 use reference::steps::{Step, Steps, JOURNAL_ENTRIES};
+use reference::strength::{product, Measure};
 
 /// A random network whose weights are among a few.
 fn network(random: &mut Random, p: usize) -> Network {
@@ -72,7 +73,35 @@ fn compare(network: &Network, k: usize, random: &mut Random) -> bool {
     assert_eq!(fast::tree(links, p, k), definition::tree(links, p, k));
     compare_means(network, &facts, &cliques, k, random);
     compare_cliques(network, &facts, &cliques, k, random);
+    compare_strength(network, &facts, k, random);
     true
+}
+
+/// Listings by clique strength: at a product, beside it, and by the weakest
+/// link, which is the listing at that threshold.
+fn compare_strength(network: &Network, facts: &Facts, k: usize, random: &mut Random) {
+    let (p, links) = (network.names.len(), &network.links[..]);
+    let mut measures = vec![Measure::Weakest(random.within(0, 7) as u16)];
+    if !facts.weights().is_empty() {
+        let own = product(&facts.weights()[random.below(facts.weights().len())]);
+        let above = f64::from_bits(own.to_bits() + 1);
+        measures.extend([own, above].map(Measure::Product));
+    }
+    for measure in measures {
+        let expected = definition::strong_listing(links, p, k, measure);
+        assert_eq!(facts.strong(measure).listing(), expected);
+        if let Measure::Weakest(t) = measure {
+            assert_eq!(definition::listing(links, p, k, t), expected);
+        }
+        let cliques = definition::strong_cliques(links, p, k, measure);
+        let mut slots: Vec<u64> = cliques
+            .iter()
+            .flat_map(|&set| fast::parts(set).map(move |part| set & !(1 << part)))
+            .collect();
+        slots.sort_unstable();
+        slots.dedup();
+        assert_eq!(facts.strong(measure).slot_count(), slots.len());
+    }
 }
 
 /// Mean link weights at every level, just above it and at the ends, of a

@@ -4,6 +4,7 @@ use reference::calls::{Judge, JudgeK, Run};
 use reference::fast;
 use reference::network::{levels, Network};
 use reference::random::Random;
+use reference::strength::Measure;
 
 use crate::trials::Trials;
 
@@ -83,6 +84,14 @@ pub fn any_set(random: &mut Random, judge: &JudgeK) -> u64 {
     }
 }
 
+/// A measure with this threshold of weight, or with any bits for a product.
+fn any_measure(random: &mut Random, t: u16) -> Measure {
+    match random.chance(50) {
+        true => Measure::Weakest(t),
+        false => Measure::Product(f64::from_bits(random.number())),
+    }
+}
+
 impl Trials {
     /// Every call on a sheet, with arguments good and bad. It is for small
     /// sheets: nothing bounds the work where they are accepted.
@@ -118,6 +127,8 @@ impl Trials {
         let lengths = self.lengths(&judge_k, Run::Sequential, t);
         let clique = any_set(&mut self.random, &judge_k);
         self.family_mean(&judge_k, t, clique, lengths);
+        let measure = any_measure(&mut self.random, t);
+        self.strong_around(&judge_k, measure);
         let lengths = self.lengths(&judge_k, Run::Sequential, 0);
         let out = self.tree_output(&judge_k);
         self.tree(&judge_k, lengths, out);

@@ -50,7 +50,7 @@ pub fn check_outcome(found: lent::Outcome, expected: Outcome) -> Result<(), Stri
 }
 
 /// What is wrong with a call on a sheet, in its answer, output or tables.
-fn check_call(
+pub(crate) fn check_call(
     found: lent::Outcome,
     expected: &Expected,
     out: &Guarded<u8>,

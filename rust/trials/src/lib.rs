@@ -8,6 +8,7 @@ pub mod guarded;
 pub mod inserts;
 pub mod lists;
 pub mod sheets;
+pub mod strengths;
 pub mod told;
 pub mod trials;
 

@@ -9,8 +9,10 @@ use reference::json::{parse, Value};
 use reference::network::{Link, Mean};
 use reference::sheets::Refusal;
 use reference::steps::Step;
+use reference::strength::Measure;
 use trials::calls::FamilyMean;
 use trials::inserts::Inserts;
+use trials::strengths::StrongListing;
 use trials::Trials;
 
 fn bytes(value: &Value) -> Vec<u8> {
@@ -163,6 +165,41 @@ fn mean_weight(trials: &mut Trials, case: &Value) {
     trials.family_mean_as(&sheet, call, &expected);
 }
 
+/// The threshold of a product stands as the bits of its float.
+fn measure(value: &Value) -> Measure {
+    match value.field("product") {
+        Value::Null => Measure::Weakest(number(value.field("weakest")) as u16),
+        product => Measure::Product(f64::from_bits(set(product))),
+    }
+}
+
+fn listing_strength(trials: &mut Trials, case: &Value) {
+    let given = case.field("in");
+    let sheet = bytes(given.field("sheet"));
+    let list = list(given.field("cliques"));
+    let call = StrongListing {
+        k: number(given.field("k")),
+        measure: measure(given.field("measure")),
+        list: [list[0] as usize, list[1] as usize],
+        lengths: lengths(given.field("tables")),
+        out: number(given.field("out_len")),
+    };
+    let expected = match answer(case.field("out")) {
+        Ok(ok) => Expected::answered(
+            number(ok.field("count")),
+            bytes(ok.field("data")),
+            left(case),
+        ),
+        Err(refusal) => Expected::refused(refusal, left(case)),
+    };
+    let judge = Judge::new(&sheet);
+    let found = judge
+        .with(call.k)
+        .strong_listing(call.measure, call.list, call.lengths, call.out);
+    assert_eq!(found, expected, "{case:?}");
+    trials.strong_as(&sheet, call, &expected);
+}
+
 /// A start on both sides, which must agree.
 fn start(trials: &mut Trials, given: &Value) -> Result<Inserts, Refusal> {
     let [p, k, journal] = ["p", "k", "journal"].map(|name| number(given.field(name)));
@@ -294,6 +331,7 @@ fn tried(trials: &mut Trials, case: &Value) {
         "name_of" => name_of(trials, case),
         "write_network" => write_network(trials, case),
         "mean_weight" => mean_weight(trials, case),
+        "listing_strength" => listing_strength(trials, case),
         "steps" => steps(trials, case),
         "state_check" => state_check(trials, case),
         call => panic!("no trial for the call {call}"),

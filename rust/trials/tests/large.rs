@@ -1,11 +1,13 @@
-//! The limit of 16,777,216 slots. These tests need up to 700 MB and some
-//! time, so they run only where they are asked for (`-- --ignored`).
+//! The limit of 16,777,216 slots, and a clique list longer than that. These
+//! tests need up to 700 MB and some time, so they run only where they are
+//! asked for (`-- --ignored`).
 
 use families::lent::{self, State};
-use families::{Space, Tables, JOURNAL_ENTRIES, MOST_SLOTS};
+use families::{Cliques, Measure, Space, Tables, JOURNAL_ENTRIES, MOST_SLOTS};
 use reference::network::{Link, Network};
 use reference::published::plain_names;
 use reference::sheets::sheet_bytes;
+use trials::sheets::complete;
 use trials::Trials;
 
 /// 24 pairs of parts, each part linked to all but the other of its pair:
@@ -97,4 +99,26 @@ fn used_slots_beyond_the_limit() {
         lent::listing_now(state, tables.as_ref(), &mut []).number,
         12
     );
+}
+
+/// All cliques of six of 51 parts: the list holds them, and no slot is needed
+/// where none is strong.
+#[test]
+#[ignore = "needs much memory"]
+fn more_cliques_than_slots() {
+    let trials = &mut Trials::new("more cliques than there may be slots");
+    let sheet = sheet_bytes(&complete(51));
+    for (cliques, expected) in [(18_009_460, (0, 0)), (18_009_459, (15, 0))] {
+        trials.case();
+        let mut list = Cliques::new(cliques);
+        list.as_mut().sets.fill(9);
+        list.as_mut().products.fill(9.0);
+        let mut tables = Tables::new(0);
+        let (space, slots) = (list.as_mut(), tables.as_mut());
+        let found = lent::strong_listing(&sheet, 6, Measure::Weakest(2), space, slots, &mut []);
+        assert_eq!((found.number, found.count), expected);
+        let left = list.as_mut();
+        assert!(left.sets.iter().all(|&set| set == 0));
+        assert!(left.products.iter().all(|v| v.to_bits() == 0));
+    }
 }

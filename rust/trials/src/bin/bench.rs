@@ -1,6 +1,7 @@
 //! Times of the library and of the reference on test sheets, with their
-//! ratio: both listings at t 1 and the merge tree. The sheets are those of
-//! the recipe of the bench's test sheets, from the starting number 1.
+//! ratio: both listings at t 1, the one by clique strength, and the merge
+//! tree. The sheets are those of the recipe of the bench's test sheets, from
+//! the starting number 1.
 //!
 //! The first argument gives the most slots of the sequential run: its time
 //! grows with the square of their number, since slots are found by a linear
@@ -10,11 +11,13 @@ use std::env;
 use std::hint::black_box;
 use std::time::{Duration, Instant};
 
-use families::{lent, Run, Tables};
+use families::{lent, Cliques, Run, Tables};
 use reference::fast;
 use reference::network::Network;
 use reference::sheets::sheet_bytes;
+use reference::strength::{pair_weights, Measure};
 use trials::sheets::bench_network;
+use trials::strengths::measure_of;
 
 const DEFAULT_SLOTS: usize = 12_000;
 const MAXIMAL_CLIQUES: usize = 1_000_000;
@@ -64,6 +67,45 @@ fn listing(network: &Network, k: usize, run: Run, slots: usize) -> String {
     show(times)
 }
 
+/// The listing by clique strength: each clique's weights and measure, then
+/// percolation; it stores no list.
+fn strong_reference(network: &Network, k: usize, measure: Measure) -> fast::Classes {
+    let (p, links) = (network.names.len(), &network.links[..]);
+    let (rows, weights) = (fast::rows(links, 0), fast::weights(links));
+    let mut classes = fast::Classes::default();
+    fast::each_clique(&rows, 0, fast::all_parts(p), k, &mut |set| {
+        if measure.reached(&pair_weights(&weights, set)) {
+            classes.add(set);
+        }
+    });
+    classes
+}
+
+/// The times of a listing by clique strength that every clique reaches, so
+/// that it percolates what the sequential run does.
+fn strong(network: &Network, k: usize, slots: usize) -> String {
+    let measure = match k <= 4 {
+        true => Measure::Product(1.0),
+        false => Measure::Weakest(1),
+    };
+    let rows = fast::rows(&network.links, 0);
+    let parts = fast::all_parts(network.names.len());
+    let sheet = sheet_bytes(network);
+    let mut cliques = Cliques::new(fast::count_cliques(&rows, parts, k, usize::MAX));
+    let mut tables = Tables::new(slots);
+    let mut out = vec![0; 16 * strong_reference(network, k, measure).listing().len()];
+    let times = best(
+        || {
+            let (list, tables) = (cliques.as_mut(), tables.as_mut());
+            let measure = measure_of(measure);
+            let outcome = lent::strong_listing(&sheet, k, measure, list, tables, &mut out);
+            assert_eq!(outcome.number, 0, "refused");
+        },
+        || drop(black_box(strong_reference(network, k, measure).listing())),
+    );
+    show(times)
+}
+
 /// The times of the merge tree.
 fn tree(network: &Network, k: usize, slots: usize) -> String {
     let (p, links) = (network.names.len(), &network.links[..]);
@@ -92,8 +134,12 @@ fn row(p: usize, density: u64, k: usize, most: usize) {
     let maximal = fast::maximal_cliques(&rows, p, k, MAXIMAL_CLIQUES).len();
     print!("{p:>3} {density:>4} {k:>2} {slots:>8} {maximal:>8}");
     match slots <= most {
-        true => print!("{}", listing(&network, k, Run::Sequential, slots)),
-        false => print!("{}", none()),
+        true => print!(
+            "{}{}",
+            listing(&network, k, Run::Sequential, slots),
+            strong(&network, k, slots)
+        ),
+        false => print!("{}{}", none(), none()),
     }
     match maximal <= MAXIMAL_CLIQUES {
         true => print!("{}", listing(&network, k, Run::Maximal, maximal)),
@@ -112,11 +158,12 @@ fn main() {
     println!("ms, best of {TIMES}: library, reference, ratio");
     println!("p parts, d density in percent, threshold 1; as many slots as the run needs");
     println!("the tables are zero before each call, as every call leaves them");
+    println!("by strength: product 1 or more at k 3 and 4, weakest link 1 or more at k 5");
     println!("- : more than {most} slots (MOST= takes another number)");
     let column = format!(" | {:>10} {:>10} {:>8}", "library", "reference", "ratio");
     println!(
-        "{:>28} | {:<30} | {:<30} | {:<30}",
-        "", "sequential", "maximal", "tree"
+        "{:>28} | {:<30} | {:<30} | {:<30} | {:<30}",
+        "", "sequential", "by strength", "maximal", "tree"
     );
     println!(
         "{:>3} {:>4} {:>2} {:>8} {:>8}{}",
@@ -125,7 +172,7 @@ fn main() {
         "k",
         "slots",
         "maximal",
-        column.repeat(3)
+        column.repeat(4)
     );
     for p in [32, 64] {
         for density in [20, 50, 80, 100] {

@@ -6,7 +6,7 @@ use Rattle.families.proofs.typed.decimal.Statement.{statement}
 use Rattle.families.proofs.typed.decimal.Tie as tie
 
 abbrev Inv-loop : tie.InvT-loop
-Inv-loop word n₀ i₀ n i = (i ≤ length word) × (n ≤ 2000000000)
+Inv-loop word n₀ i₀ n i = (i ≤ length word) × (n ≤ 10000000000000000)
 
 abbrev μ-loop : tie.MeasureT-loop
 μ-loop word n₀ i₀ n i = length word - i

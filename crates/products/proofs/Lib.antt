@@ -1,0 +1,5 @@
+pub mod CliqueProducts
+pub mod Examples
+pub mod Nearness
+pub mod Peeling
+pub mod Rounding

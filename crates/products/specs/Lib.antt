@@ -1,0 +1,3 @@
+pub mod Measures
+pub mod Model
+pub mod Products

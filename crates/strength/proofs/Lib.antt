@@ -1,0 +1,5 @@
+pub mod Calls
+pub mod Examples
+pub mod Strong
+pub mod Sure
+pub mod Weakest
