@@ -4,8 +4,10 @@ use reference::calls::{Judge, JudgeK, Run};
 use reference::fast;
 use reference::network::{levels, Network};
 use reference::random::Random;
+use reference::sheets::sheet_bytes;
 use reference::strength::Measure;
 
+use crate::sheets::{network, p8, random_network, thin_out};
 use crate::trials::Trials;
 
 pub const RUNS: [Run; 2] = [Run::Sequential, Run::Maximal];
@@ -93,6 +95,23 @@ fn any_measure(random: &mut Random, t: u16) -> Measure {
 }
 
 impl Trials {
+    /// Small sheets, a refused one among them, each with every k, good and
+    /// bad: for what a caller can get wrong, crossed.
+    pub fn small_sheets(&mut self, tried: impl Fn(&mut Trials, &JudgeK)) {
+        let mut more = random_network(&mut self.random, 8);
+        (3..=6).for_each(|k| thin_out(&mut more, k, 60));
+        let bad = Network {
+            names: vec![*b" B      "; 5],
+            ..p8()
+        };
+        for network in [p8(), more, network(5, &[]), bad, network(1, &[])] {
+            let judge = Judge::new(&sheet_bytes(&network));
+            for k in BAD_K.into_iter().chain(2..=6) {
+                tried(self, &judge.with(k));
+            }
+        }
+    }
+
     /// Every call on a sheet, with arguments good and bad. It is for small
     /// sheets: nothing bounds the work where they are accepted.
     pub fn every_call(&mut self, judge: &Judge) {

@@ -5,7 +5,7 @@ use families::{mean, MeanWeight, Refused, Space};
 use reference::calls::{slot_bound, ExpectedMean, Judge, JudgeK, Left};
 use reference::network::{levels, Mean, Network};
 use reference::sheets::{sheet_bytes, Refusal};
-use trials::arguments::{any_set, around, unequal, BAD_K};
+use trials::arguments::{any_set, around, unequal};
 use trials::calls::FamilyMean;
 use trials::sheets::{complete, network, p8, random_network, thin_out};
 use trials::Trials;
@@ -250,18 +250,7 @@ fn refusals_in_order() {
 #[test]
 fn callers_faults() {
     let trials = &mut Trials::new("means' faults crossed");
-    let mut more = random_network(&mut trials.random, 8);
-    (3..=6).for_each(|k| thin_out(&mut more, k, 60));
-    let bad = Network {
-        names: vec![*b" B      "; 5],
-        ..p8()
-    };
-    for network in [p8(), more, network(5, &[]), bad, network(1, &[])] {
-        let judge = Judge::new(&sheet_bytes(&network));
-        for k in BAD_K.into_iter().chain(2..=6) {
-            crossed(trials, &judge.with(k));
-        }
-    }
+    trials.small_sheets(crossed);
 }
 
 fn crossed(trials: &mut Trials, judge: &JudgeK) {

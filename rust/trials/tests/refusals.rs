@@ -1,11 +1,11 @@
 //! Refusals of the calls on a sheet: every number at every place (names.rs
 //! has 21), several faults at once, truncations, random bytes and single bits.
 
-use reference::calls::{Judge, Run};
+use reference::calls::{Judge, JudgeK, Run};
 use reference::network::{Link, Network};
 use reference::random::Random;
 use reference::sheets::{sheet_bytes, Refusal};
-use trials::arguments::{unequal, BAD_K, BAD_P, RUNS};
+use trials::arguments::{unequal, BAD_P, RUNS};
 use trials::sheets::{network, p8, random_name, random_network, thin_out};
 use trials::told::Told;
 use trials::Trials;
@@ -278,38 +278,29 @@ fn several_faults() {
 #[test]
 fn callers_faults() {
     let trials = &mut Trials::new("callers' faults");
-    let bad = Network {
-        names: vec![*b" B      "; 5],
-        ..p8()
-    };
-    let empty = network(5, &[]);
-    let more = random_sheet(&mut trials.random, 8);
-    for network in [p8(), more, empty, bad, network(1, &[])] {
-        let judge = Judge::new(&sheet_bytes(&network));
-        for k in BAD_K.into_iter().chain(2..=6) {
-            let judge = judge.with(k);
-            let need = judge.facts().map_or(7, |facts| facts.slots(0));
-            let fewer = need.saturating_sub(1);
-            let level = [need, fewer, 0, need + 3].map(|slots| [slots; 4]);
-            for lengths in level.into_iter().chain(unequal(need)) {
-                for run in RUNS {
-                    for out in [0, 1, 15, 16, 17, 31, 32, 40] {
-                        trials.case();
-                        trials.listing(&judge, run, 2, lengths, out);
-                        trials.listing(&judge, run, 3, lengths, out);
-                    }
-                    for a in [7, 28, 14, 3, 15, 0, 7 | 1 << 63, u64::MAX] {
-                        for b in [7, 28, 14, 13, 3, 15, 31, 1 << 40] {
-                            trials.case();
-                            trials.meeting(&judge, run, a, b, lengths);
-                        }
-                    }
-                }
-                for out in [0, 25, 26, 27, 77, 78, 79, 100] {
+    trials.small_sheets(crossed);
+}
+
+fn crossed(trials: &mut Trials, judge: &JudgeK) {
+    let need = judge.facts().map_or(7, |facts| facts.slots(0));
+    let level = [need, need.saturating_sub(1), 0, need + 3].map(|slots| [slots; 4]);
+    for lengths in level.into_iter().chain(unequal(need)) {
+        for run in RUNS {
+            for out in [0, 1, 15, 16, 17, 31, 32, 40] {
+                trials.case();
+                trials.listing(judge, run, 2, lengths, out);
+                trials.listing(judge, run, 3, lengths, out);
+            }
+            for a in [7, 28, 14, 3, 15, 0, 7 | 1 << 63, u64::MAX] {
+                for b in [7, 28, 14, 13, 3, 15, 31, 1 << 40] {
                     trials.case();
-                    trials.tree(&judge, lengths, out);
+                    trials.meeting(judge, run, a, b, lengths);
                 }
             }
+        }
+        for out in [0, 25, 26, 27, 77, 78, 79, 100] {
+            trials.case();
+            trials.tree(judge, lengths, out);
         }
     }
 }

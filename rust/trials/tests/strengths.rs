@@ -11,7 +11,7 @@ use reference::network::{levels, Network};
 use reference::random::Random;
 use reference::sheets::{sheet_bytes, Refusal};
 use reference::strength::{product, whole_product, Measure};
-use trials::arguments::{unequal, BAD_K, RUNS};
+use trials::arguments::{unequal, RUNS};
 use trials::sheets::{complete, network, p8, random_network, thin_out};
 use trials::strengths::{measure_of, StrongListing};
 use trials::Trials;
@@ -438,18 +438,7 @@ fn refusals_from_11_on() {
 #[test]
 fn callers_faults() {
     let trials = &mut Trials::new("strong listings' faults crossed");
-    let mut more = random_network(&mut trials.random, 8);
-    (3..=6).for_each(|k| thin_out(&mut more, k, 60));
-    let bad = Network {
-        names: vec![*b" B      "; 5],
-        ..p8()
-    };
-    for network in [p8(), more, network(5, &[]), bad, network(1, &[])] {
-        let judge = Judge::new(&sheet_bytes(&network));
-        for k in BAD_K.into_iter().chain(2..=6) {
-            crossed(trials, &judge.with(k));
-        }
-    }
+    trials.small_sheets(crossed);
 }
 
 fn crossed(trials: &mut Trials, judge: &JudgeK) {
