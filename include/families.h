@@ -41,7 +41,7 @@ extern "C" {
 #endif
 
 /* The number of the latest change request that has landed, in order of landing; 0: the base. */
-#define FAMILIES_EDITION 6
+#define FAMILIES_EDITION 7
 
 /* On a refusal count and parts are 0. parts is 0 from every call but families_read. */
 typedef struct {
@@ -236,7 +236,10 @@ families_mean families_family_mean(
     uint64_t *smallest, size_t smallest_length,
     uint64_t *unions, size_t unions_length);
 
-/* The merge tree of a sheet: 26 bytes a line. count = lines. */
+/*
+ * The merge tree of a sheet: 26 bytes a line. count = lines. Weight and smallest clique are those of the line's start; its
+ * union is that of its class at the last level before it goes into another line, or at the last level of all.
+ */
 families_outcome families_tree(
     const uint8_t *sheet, size_t sheet_length, size_t k,
     uint64_t *sets, size_t sets_length,

@@ -158,6 +158,29 @@ static void taken_back(families_state state)
     show_journal(s.state);
 }
 
+static void lines(size_t count)
+{
+    for (size_t i = 0; i < count; i++)
+        printf("  weight %" PRIu64 " joins %" PRIu64 " into %" PRIu64 " smallest %" PRIu64 " parts %" PRIu64 "\n",
+               number(out + 26 * i, 2), number(out + 26 * i + 2, 4), number(out + 26 * i + 6, 4),
+               number(out + 26 * i + 10, 8), number(out + 26 * i + 18, 8));
+}
+
+/* P1: at k 3 one line, which starts with three parts and grows to four. */
+static const uint8_t grows[] = "PLS\0\1\4\0\5LOCK    MOTOR   BOARD   COIL    "
+    "\0\1\0\11" "\0\2\0\11" "\1\2\0\10" "\1\3\0\5" "\2\3\0\5";
+
+static void trees(size_t length)
+{
+    families_outcome o = families_tree(sheet, length, 3, TABLES(SLOTS), out, sizeof out);
+    show("tree", o);
+    lines(o.count);
+    show("tree, a slot too few", families_tree(sheet, length, 3, TABLES(SLOTS - 1), out, sizeof out));
+    o = families_tree(grows, sizeof grows - 1, 3, TABLES(SLOTS), out, sizeof out);
+    show("tree, a line that grows", o);
+    lines(o.count);
+}
+
 static void on_sheet(size_t length)
 {
     families_outcome o = families_listing_sequential(sheet, length, 3, 4, TABLES(SLOTS), out, sizeof out);
@@ -170,13 +193,7 @@ static void on_sheet(size_t length)
     show("meeting, maximal", families_meeting_maximal(sheet, length, 3, 28, 7, TABLES(SLOTS)));
     show("meeting of no clique", families_meeting_maximal(sheet, length, 3, 7, 11, TABLES(SLOTS)));
     show("meeting, k 7", families_meeting_sequential(sheet, length, 7, 7, 28, TABLES(SLOTS)));
-    o = families_tree(sheet, length, 3, TABLES(SLOTS), out, sizeof out);
-    show("tree", o);
-    for (size_t i = 0; i < o.count; i++)
-        printf("  weight %" PRIu64 " joins %" PRIu64 " into %" PRIu64 " smallest %" PRIu64 " parts %" PRIu64 "\n",
-               number(out + 26 * i, 2), number(out + 26 * i + 2, 4), number(out + 26 * i + 6, 4),
-               number(out + 26 * i + 10, 8), number(out + 26 * i + 18, 8));
-    show("tree, a slot too few", families_tree(sheet, length, 3, TABLES(SLOTS - 1), out, sizeof out));
+    trees(length);
     sheet[length - 4] = 2;
     show("a pair given before", families_listing_sequential(sheet, length, 3, 4, TABLES(SLOTS), out, sizeof out));
 }

@@ -1,1 +1,2 @@
+pub mod GrownLines
 pub mod Growing

@@ -148,11 +148,7 @@ pub bytes3 : listingBytes (shown 7 2047 ∷ []) ≡ 0 ∷ 0 ∷ 0 ∷ 0 ∷ 0 �
 unfolding listingBytes
 bytes3 = refl
 
--- the tree of P1, and the printed tree of P8: three lines of 26 bytes
-pub tree1 : tree sheet1 4 3 ≡ line 8 0 0 7 7 ∷ []
-unfolding tree
-tree1 = refl
-
+-- the printed tree of P8: three lines of 26 bytes
 pub tree8-bytes : treeBytes (tree sheet8 5 3)
     ≡ (0 ∷ 4 ∷ 0 ∷ 0 ∷ 0 ∷ 0 ∷ 0 ∷ 0 ∷ 0 ∷ 3 ∷ 0 ∷ 0 ∷ 0 ∷ 0 ∷ 0 ∷ 0 ∷ 0 ∷ 7 ∷ 0 ∷ 0 ∷ 0 ∷ 0 ∷ 0 ∷ 0 ∷ 0 ∷ 7 ∷ [])
     ++ (0 ∷ 4 ∷ 0 ∷ 0 ∷ 0 ∷ 0 ∷ 0 ∷ 0 ∷ 0 ∷ 3 ∷ 0 ∷ 0 ∷ 0 ∷ 0 ∷ 0 ∷ 0 ∷ 0 ∷ 28 ∷ 0 ∷ 0 ∷ 0 ∷ 0 ∷ 0 ∷ 0 ∷ 0 ∷ 28 ∷ [])

@@ -5,6 +5,7 @@ pub mod Communities
 pub mod Examples
 pub mod Exchange
 pub mod Families
+pub mod Growth
 pub mod Joining
 pub mod Levels
 pub mod Maximal

@@ -1,6 +1,6 @@
 -- Families, listings, slots and meetings depend on the set of links alone: not on the order of links, nor on a larger part count.
 -- Assumes nothing.
-use mathlib.Core.Path.{_≡_, refl, ap, ap₂, _∙_}
+use mathlib.Core.Path.{_≡_, refl, sym, ap, ap₂, _∙_}
 use mathlib.Core.Logic.{_⊎_, inl, inr}
 use mathlib.Core.Bool.{true}
 use mathlib.Core.List.{List, [], _∷_, _++_}
@@ -8,13 +8,14 @@ use Prim.Native.Nat.{ℕ, suc, _+_, _≤_, _<_}
 use lib.ListN.{length}
 use native.Mathlib.Omega.{arith}
 use Rattle.sets.specs.Lists.{_∈_, keep}
-use Rattle.sets.proofs.ListLaws.{Holds, any-of, keep-same}
+use Rattle.sets.proofs.ListLaws.{Holds, any-of, keep-same, keep-at, keep-of}
+use Rattle.sets.proofs.Members.{union-same}
 use Rattle.sets.proofs.Parts.{another}
-use Rattle.percolation.specs.Percolate.{Community}
+use Rattle.percolation.specs.Percolate.{Community, joined, unionAt}
 use Rattle.percolation.specs.Links.{Link, heavy, joins, linked, cliques, family, listing, slots}
 use Rattle.percolation.specs.Levels.{levels, joinedAt, largest, meeting}
 use Rattle.percolation.specs.Steps.{legal}
-use Rattle.percolation.specs.Tree.{Start, Branch, Level, classAt, heldBy, levelOf, startsFrom, linesFrom, tree}
+use Rattle.percolation.specs.Tree.{Start, Branch, Level, classAt, heldBy, levelOf, startsFrom, goesInto, Line, line, lastLevel, wholeOf, linesFrom, tree}
 use Rattle.percolation.proofs.Accepted.{legal-parts, good-parts}
 use Rattle.percolation.proofs.Chains.{joined-same}
 use Rattle.percolation.proofs.Communities.{communities-same}
@@ -105,6 +106,35 @@ module _ (L M : List Link) (p r k : ℕ) (two : 2 ≤ k) (f : Holds M L) (g : Ho
       one-level : levelOf L p k w P n (listing L p k w) ≡ levelOf M r k w P n (listing M r k w)
       one-level = level-same w P n (listing L p k w) ∙ ap (levelOf M r k w P n) (listing-same w)
 
+  union-links : (t a : ℕ) → unionAt k (family L p k t) a ≡ unionAt k (family M r k t) a
+  unfolding unionAt
+  union-links t a =
+      union-same (keep (joined k (family L p k t) a) (family L p k t)) (keep (joined k (family M r k t) a) (family M r k t))
+      (λ b m. let h = keep-of (joined k (family L p k t) a) (family L p k t) m in
+      keep-at (joined k (family M r k t) a) (family M r k t) (to b (h .0)) (sym (same a b) ∙ h .1))
+      (λ b m. let h = keep-of (joined k (family M r k t) a) (family M r k t) m in
+      keep-at (joined k (family L p k t) a) (family L p k t) (fro b (h .0)) (same a b ∙ h .1))
+    where
+      to : Holds (family M r k t) (family L p k t)
+      to = family-held p r k two L M t f lowM
+
+      fro : Holds (family L p k t) (family M r k t)
+      fro = family-held r p k two M L t g lowL
+
+      same : (a b : ℕ) → joined k (family L p k t) a b ≡ joined k (family M r k t) a b
+      same = joined-same k (family L p k t) (family M r k t) to fro
+
+  lines-links : (W : List ℕ) (S : List Start) (n : ℕ) (X : List Start) → linesFrom L p k W S n X ≡ linesFrom M r k W S n X
+  unfolding linesFrom wholeOf
+  lines-links W S n [] = refl
+  lines-links W S n (x ∷ X) =
+      ap₂ (λ (u : ℕ) (Y : List Line). line (x .weight) (length (x .joins)) (goesInto n 1 S) (x .small) u ∷ Y)
+      (union-links (lastLevel W S n) (x .small)) (lines-links W S (suc n) X)
+
   pub tree-same : tree L p k ≡ tree M r k
   unfolding tree
-  tree-same = ap (λ (S : List Start). linesFrom S 1 S) (starts-same [] 0 (levels L) ∙ ap (startsFrom M r k [] 0) (levels-same L M f g))
+  tree-same =
+      let S = startsFrom M r k [] 0 (levels M) in
+      ap₂ (λ (W : List ℕ) (T : List Start). linesFrom L p k W T 1 T) (levels-same L M f g)
+      (starts-same [] 0 (levels L) ∙ ap (startsFrom M r k [] 0) (levels-same L M f g))
+      ∙ lines-links (levels M) S 1 S

@@ -25,7 +25,7 @@ use Rattle.percolation.proofs.Levels.{levels-falling}
 
 -- ---- numbers that stand once
 
-abbrev num : Branch → ℕ
+abbrev pub num : Branch → ℕ
 num b = b .number
 
 abbrev smalls : List Community → List ℕ
@@ -45,7 +45,7 @@ numbers-distinct f (b ∷ P) u = go (split (f b)) (numbers-distinct f P (u .1))
     go (inr e) r = rw (keep-no f b P e) r
 
 -- a branch is known by its number
-num-one : (P : List Branch) → Distinct (map num P) → (b d : Branch) → b ∈ P → d ∈ P → num b ≡ num d → b ≡ d
+pub num-one : (P : List Branch) → Distinct (map num P) → (b d : Branch) → b ∈ P → d ∈ P → num b ≡ num d → b ≡ d
 unfolding Distinct
 num-one [] u b d m n e = absurd (List·Memᴰ·not-nil m)
 num-one (a ∷ P) u b d m n e = go (List·Memᴰ·cases-cons m) (List·Memᴰ·cases-cons n) (num-one P (u .1) b d)
@@ -61,7 +61,7 @@ num-one (a ∷ P) u b d m n e = go (List·Memᴰ·cases-cons m) (List·Memᴰ·c
 
 -- ---- a statement on each line of a list: how many lines are before it, the line, and the lines after it
 
-abbrev Each : (ℕ → Start → List Start → Type 0) → ℕ → List Start → Type 0
+abbrev pub Each : (ℕ → Start → List Start → Type 0) → ℕ → List Start → Type 0
 Each Q n [] = Unit {0}
 Each Q n (x ∷ X) = Q n x X × Each Q (suc n) X
 
@@ -76,7 +76,7 @@ module _ (Q : ℕ → Start → List Start → Type 0) where
   each-left n [] R a = tt
   each-left n (x ∷ X) R a = (a .0, each-left (suc n) X R (a .1))
 
-  each-at : (n m : ℕ) (A : List Start) (x : Start) (B : List Start) → Each Q n (A ++ (x ∷ B)) → m ≡ n + length A → Q m x B
+  pub each-at : (n m : ℕ) (A : List Start) (x : Start) (B : List Start) → Each Q n (A ++ (x ∷ B)) → m ≡ n + length A → Q m x B
   each-at n m [] x B a e = let f : m ≡ n = omega arith in rw f (a .0)
   each-at n m (y ∷ A) x B a e = each-at (suc n) m A x B (a .1) (omega arith)
 
@@ -142,7 +142,7 @@ goes-first i n (x ∷ X) = ap (λ (z : ℕ). cond (joinsIt i x) n z) (goes-first
 
 -- ---- one level: how its classes C were taken, with n lines before; h gives the classes of the level before that a class holds
 
-data Made (h : Community → List Branch) (w : ℕ) : ℕ → List Community → Level → Type 0 where
+pub data Made (h : Community → List Branch) (w : ℕ) : ℕ → List Community → Level → Type 0 where
   done : {n : ℕ} → Made h w n [] (record { branches = []; starts = [] })
   goOn : {n : ℕ} {c : Community} {C : List Community} {l : Level} {d : Branch} → h c ≡ d ∷ [] → Made h w n C l → Made h w n (c ∷ C) (continues c (num d) l)
   begin : {n : ℕ} {c : Community} {C : List Community} {l : Level} {D : List Branch} → h c ≡ D → (length D ≡ 1 → ⊥) → Made h w (suc n) C l
@@ -170,27 +170,27 @@ module _ (L : List Link) (p k w : ℕ) (P : List Branch) where
       go (begin {c = c} e s m) = ap (λ (z : List ℕ). c .small ∷ z) (go m)
 
 -- a line that starts at the level: its class c, its branch, and that the lines Y after it are of larger classes; N counts the lines up to this level
-record Born (h : Community → List Branch) (w : ℕ) (C : List Community) (T : List Branch) (n N m : ℕ) (x : Start) (Y : List Start) : Type 0 where
-  class : Community
-  listed : class ∈ C
-  weighs : x .weight ≡ w
-  shows : x .small ≡ class .small
-  takes : x .joins ≡ map num (h class)
-  count : length (h class) ≡ 1 → ⊥
-  branch : record { small = x .small; number = suc m } ∈ T
-  from : n ≤ m
-  total : m + suc (length Y) ≡ N
-  later : (y : Start) → y ∈ Y → before (x .small) (y .small) ≡ true
+pub record Born (h : Community → List Branch) (w : ℕ) (C : List Community) (T : List Branch) (n N m : ℕ) (x : Start) (Y : List Start) : Type 0 where
+  pub class : Community
+  pub listed : class ∈ C
+  pub weighs : x .weight ≡ w
+  pub shows : x .small ≡ class .small
+  pub takes : x .joins ≡ map num (h class)
+  pub count : length (h class) ≡ 1 → ⊥
+  pub branch : record { small = x .small; number = suc m } ∈ T
+  pub from : n ≤ m
+  pub total : m + suc (length Y) ≡ N
+  pub later : (y : Start) → y ∈ Y → before (x .small) (y .small) ≡ true
 
 -- where the number i of a branch comes from: a class that holds one branch alone, or a line that starts at the level
-abbrev Came : (Community → List Branch) → List Community → ℕ → ℕ → ℕ → Type 0
+abbrev pub Came : (Community → List Branch) → List Community → ℕ → ℕ → ℕ → Type 0
 Came h C n N i = ((c : Community) × (d : Branch) × c ∈ C × (h c ≡ d ∷ []) × (i ≡ num d)) ⊎ ((n < i) × (i ≤ N))
 
 -- what two classes of C hold differs by number
 abbrev Sole : (Community → List Branch) → List Community → Type 0
 Sole h C = (a c : Community) (b d : Branch) → a ∈ C → c ∈ C → b ∈ h a → d ∈ h c → num b ≡ num d → a ≡ c
 
-only-in : {A : Type 0} (l : List A) (d : A) → l ≡ d ∷ [] → d ∈ l
+pub only-in : {A : Type 0} (l : List A) (d : A) → l ≡ d ∷ [] → d ∈ l
 only-in l d e = rw e (List·Memᴰ·head refl)
 
 module _ (h : Community → List Branch) (w : ℕ) where
@@ -244,7 +244,7 @@ module _ (h : Community → List Branch) (w : ℕ) where
   came-more c t M e f (inl a) = inl (a .0, a .1, List·Memᴰ·tail (a .2), a .3, a .4)
   came-more c t M e f (inr a) = inr (omega arith, omega arith)
 
-  came : {n : ℕ} {C : List Community} {l : Level} → Made h w n C l → (i : ℕ) → i ∈ map num (l .branches) → Came h C n (n + length (l .starts)) i
+  pub came : {n : ℕ} {C : List Community} {l : Level} → Made h w n C l → (i : ℕ) → i ∈ map num (l .branches) → Came h C n (n + length (l .starts)) i
   came done i j = absurd (List·Memᴰ·not-nil j)
   came (goOn {n = n} {c = c} {C = C} {l = l} {d = d} g m) i j = go (List·Memᴰ·cases-cons j) (λ f. came m i f)
     where
@@ -284,12 +284,12 @@ module _ (h : Community → List Branch) (w : ℕ) where
       off (inr f) = omega arith
 
   -- what becomes of a class of the level: it goes on with the one line that it holds, or it starts a line that joins those that it holds
-  abbrev Goes : Community → Level → Type 0
+  abbrev pub Goes : Community → Level → Type 0
   Goes c l =
       ((d : Branch) × (h c ≡ d ∷ []) × record { small = c .small; number = num d } ∈ l .branches)
       ⊎ ((y : Start) × y ∈ l .starts × (y .joins ≡ map num (h c)))
 
-  goes : {n : ℕ} {C : List Community} {l : Level} → Made h w n C l → (c : Community) → c ∈ C → Goes c l
+  pub goes : {n : ℕ} {C : List Community} {l : Level} → Made h w n C l → (c : Community) → c ∈ C → Goes c l
   goes done c i = absurd (List·Memᴰ·not-nil i)
   goes (goOn {c = a} {C = C} {l = l} {d = d} g m) c i = go (List·Memᴰ·cases-cons i) (λ j. goes m c j)
     where
@@ -313,9 +313,9 @@ module _ (h : Community → List Branch) (w : ℕ) where
 -- ---- the lines, level by level
 
 -- branches with n lines before: their numbers are from 1 to n, each once
-record Numbered (P : List Branch) (n : ℕ) : Type 0 where
-  bounds : (b : Branch) → b ∈ P → (1 ≤ num b) × (num b ≤ n)
-  once : Distinct (map num P)
+pub record Numbered (P : List Branch) (n : ℕ) : Type 0 where
+  pub bounds : (b : Branch) → b ∈ P → (1 ≤ num b) × (num b ≤ n)
+  pub once : Distinct (map num P)
 
 -- the first of the lines Y, numbered from n, whose class at its own weight holds the class of x, or 0
 unfoldable pub firstHolding : List Link → ℕ → ℕ → ℕ → Start → List Start → ℕ
@@ -340,24 +340,24 @@ record Good (L : List Link) (p k n : ℕ) (x : Start) (X : List Start) : Type 0 
   into : firstAt (joinsIt (suc n)) (suc (suc n)) X ≡ firstAt (holdsIt L p k x) (suc (suc n)) X
 
 module _ (L : List Link) (p k : ℕ) where
-  abbrev classesAt : ℕ → List Community
+  abbrev pub classesAt : ℕ → List Community
   classesAt w = communities k (family L p k w)
 
-  abbrev levelAt : ℕ → List Branch → ℕ → Level
+  abbrev pub levelAt : ℕ → List Branch → ℕ → Level
   levelAt w P n = levelOf L p k w P n (classesAt w)
 
   -- how many lines there are with those of the level, and the lines of the later levels
-  abbrev countAt : ℕ → List Branch → ℕ → ℕ
+  abbrev pub countAt : ℕ → List Branch → ℕ → ℕ
   countAt w P n = n + length (levelAt w P n .starts)
 
   abbrev restAt : ℕ → List ℕ → List Branch → ℕ → List Start
   restAt w W P n = startsFrom L p k (levelAt w P n .branches) (countAt w P n) W
 
-  at-chain : (w a b : ℕ) → joinedAt L p k w a b ≡ true → Chain (adjacent k) (family L p k w) a b
+  pub at-chain : (w a b : ℕ) → joinedAt L p k w a b ≡ true → Chain (adjacent k) (family L p k w) a b
   unfolding joinedAt
   at-chain w a b t = joined-chain k (family L p k w) a b t
 
-  chain-at : (w a b : ℕ) → Chain (adjacent k) (family L p k w) a b → joinedAt L p k w a b ≡ true
+  pub chain-at : (w a b : ℕ) → Chain (adjacent k) (family L p k w) a b → joinedAt L p k w a b ≡ true
   unfolding joinedAt
   chain-at w a b c = chain-joined k (family L p k w) a b c
 
@@ -385,11 +385,11 @@ module _ (L : List Link) (p k : ℕ) where
   starts-step w W P n = refl
 
   module _ (w : ℕ) (P : List Branch) where
-    held-of : (c : Community) {d : Branch} → d ∈ heldBy L p k w P c → d ∈ P × (joinedAt L p k w (c .small) (d .small) ≡ true)
+    pub held-of : (c : Community) {d : Branch} → d ∈ heldBy L p k w P c → d ∈ P × (joinedAt L p k w (c .small) (d .small) ≡ true)
     unfolding heldBy
     held-of c m = keep-of (λ b. joinedAt L p k w (c .small) (b .small)) P m
 
-    held-at : (c : Community) {d : Branch} → d ∈ P → joinedAt L p k w (c .small) (d .small) ≡ true → d ∈ heldBy L p k w P c
+    pub held-at : (c : Community) {d : Branch} → d ∈ P → joinedAt L p k w (c .small) (d .small) ≡ true → d ∈ heldBy L p k w P c
     unfolding heldBy
     held-at c m t = keep-at (λ b. joinedAt L p k w (c .small) (b .small)) P m t
 
@@ -398,20 +398,20 @@ module _ (L : List Link) (p k : ℕ) where
     held-distinct c u = numbers-distinct (λ b. joinedAt L p k w (c .small) (b .small)) P u
 
   module _ (w : ℕ) (P : List Branch) (n : ℕ) where
-    abbrev Here : ℕ → Start → List Start → Type 0
+    abbrev pub Here : ℕ → Start → List Start → Type 0
     Here = Born (heldBy L p k w P) w (classesAt w) (levelAt w P n .branches) n (countAt w P n)
 
-    level-made : Made (heldBy L p k w P) w n (classesAt w) (levelAt w P n)
+    pub level-made : Made (heldBy L p k w P) w n (classesAt w) (levelAt w P n)
     level-made = made L p k w P n (classesAt w)
 
-    level-born : Each Here n (levelAt w P n .starts)
+    pub level-born : Each Here n (levelAt w P n .starts)
     level-born = born (heldBy L p k w P) w (countAt w P n) level-made (communities-rising k (family L p k w)) refl
 
-    start-of : {y : Start} → y ∈ levelAt w P n .starts → (m : ℕ) × (Y : List Start) × Here m y Y
+    pub start-of : {y : Start} → y ∈ levelAt w P n .starts → (m : ℕ) × (Y : List Start) × Here m y Y
     start-of i = let r = each-of Here n (levelAt w P n .starts) level-born i in (r .0, r .1, r .4)
 
     -- what a line that starts here joins is a branch that its class holds
-    joined-of : {m : ℕ} {x : Start} {Y : List Start} (b : Here m x Y) {i : ℕ} → i ∈ x .joins → (d : Branch) × d ∈ heldBy L p k w P (b .class) × (num d ≡ i)
+    pub joined-of : {m : ℕ} {x : Start} {Y : List Start} (b : Here m x Y) {i : ℕ} → i ∈ x .joins → (d : Branch) × d ∈ heldBy L p k w P (b .class) × (num d ≡ i)
     joined-of b {i} j = Memᴰ·of-map num (heldBy L p k w P (b .class)) (subst (λ (z : List ℕ). i ∈ z) (b .takes) j)
 
     module _ (nb : Numbered P n) where
@@ -425,10 +425,10 @@ module _ (L : List Link) (p k : ℕ) where
       held-le : (c : Community) (d : Branch) → d ∈ heldBy L p k w P c → (1 ≤ num d) × (num d ≤ n)
       held-le c d i = nb .bounds d (held-of w P c i .0)
 
-      joined-le : {m : ℕ} {x : Start} {Y : List Start} → Here m x Y → (i : ℕ) → i ∈ x .joins → (1 ≤ i) × (i ≤ n)
+      pub joined-le : {m : ℕ} {x : Start} {Y : List Start} → Here m x Y → (i : ℕ) → i ∈ x .joins → (1 ≤ i) × (i ≤ n)
       joined-le b i j = let r = joined-of b j in let h = held-le (b .class) (r .0) (r .1) in let e = r .2 in (omega arith, omega arith)
 
-      numbered-on : Numbered (levelAt w P n .branches) (countAt w P n)
+      pub numbered-on : Numbered (levelAt w P n .branches) (countAt w P n)
       numbered-on = record {
         bounds = λ b i. go b (came (heldBy L p k w P) w level-made (num b) (Memᴰ·map num i));
         once = came-distinct (heldBy L p k w P) w level-made (λ c d i. held-le c d i .1) sole (communities-rising k (family L p k w));
@@ -439,7 +439,7 @@ module _ (L : List Link) (p k : ℕ) where
           go b (inr f) = (omega arith, omega arith)
 
       -- a line that is joined here has no branch any more
-      gone : {m : ℕ} {x : Start} {Y : List Start} → Here m x Y → (i : ℕ) → i ∈ x .joins → i ∈ map num (levelAt w P n .branches) → ⊥
+      pub gone : {m : ℕ} {x : Start} {Y : List Start} → Here m x Y → (i : ℕ) → i ∈ x .joins → i ∈ map num (levelAt w P n .branches) → ⊥
       gone b i j z = go (joined-of b j) (came (heldBy L p k w P) w level-made i z)
         where
           go : (d : Branch) × d ∈ heldBy L p k w P (b .class) × (num d ≡ i) → Came (heldBy L p k w P) (classesAt w) n (countAt w P n) i → ⊥

@@ -58,6 +58,10 @@ sheet5 = pairs 4 ((0, 1) ∷ (0, 2) ∷ (1, 2) ∷ (2, 3) ∷ (2, 4) ∷ (3, 4) 
 abbrev pub sheet8 : List Link
 sheet8 = sheet5 ++ pairs 2 ((1, 3) ∷ [])
 
+-- P8 in which the first triangle grows before the two join, the second one at that level, and the class of both after it
+abbrev pub sheet-grown : List Link
+sheet-grown = sheet5 ++ pairs 3 ((0, 5) ∷ (1, 5) ∷ []) ++ pairs 2 ((1, 3) ∷ (3, 6) ∷ (4, 6) ∷ []) ++ pairs 1 ((0, 7) ∷ (1, 7) ∷ [])
+
 abbrev pub sheet9 : List Link
 sheet9 =
     pairs 4 ((0, 1) ∷ (0, 2) ∷ (1, 2) ∷ (1, 3) ∷ (2, 3) ∷ (2, 4) ∷ (3, 4) ∷ (3, 5) ∷ (4, 5) ∷ (4, 6) ∷ (5, 6) ∷ (5, 7) ∷ (6, 7) ∷ (6, 8) ∷ (7, 8)
@@ -73,6 +77,7 @@ table =
     ∷ row sheet1 4 3 (lists 5 (shown 7 15 ∷ []))
     ∷ row sheet1 4 3 (meets 7 14 (met 5))
     ∷ row sheet1 4 3 (weighs 5 7 (mean 36 5 7 1))
+    ∷ row sheet1 4 3 (grows (line 8 0 0 7 15 ∷ []))
     ∷ row sheet5 5 3 (lists 4 (shown 7 7 ∷ shown 28 28 ∷ []))
     ∷ row sheet5 5 3 (meets 7 28 never)
     ∷ row sheet5 5 2 (lists 4 (shown 3 31 ∷ []))
@@ -84,6 +89,7 @@ table =
     ∷ row sheet1 4 3 (leaves 7 (back ∷ back ∷ insert (link 1 3 7) ∷ insert (link 2 3 8) ∷ []) (pairs 9 ((0, 1) ∷ (0, 2) ∷ []) ++ pairs 8 ((1, 2) ∷ []) ++ pairs 7 ((1, 3) ∷ [])))
     ∷ row [] 4 3 (gets 7 (back ∷ insert (link 0 1 5) ∷ back ∷ back ∷ []) (refused 19 0 ∷ accepted ∷ accepted ∷ refused 19 0 ∷ []))
     ∷ row sheet8 5 3 (grows (line 4 0 3 7 7 ∷ line 4 0 3 28 28 ∷ line 2 2 0 7 31 ∷ []))
+    ∷ row sheet-grown 8 3 (grows (line 4 0 3 7 39 ∷ line 4 0 3 28 28 ∷ line 2 2 0 7 255 ∷ []))
     ∷ row sheet9 11 3 (lists 4 (shown 7 2047 ∷ shown 1057 1057 ∷ []))
     ∷ row sheet9 11 3 (weighs 4 7 (mean 76 19 4 0))
     ∷ row sheet9 11 3 (weighs 4 1057 (mean 12 3 4 0))

@@ -2,20 +2,19 @@
 use mathlib.Core.Bool.{cond}
 use mathlib.Core.List.{List, [], _∷_, _++_, map, flatten}
 use Prim.Native.Nat.{ℕ, suc, _+_}
-use lib.Dec.{eqb}
+use lib.Dec.{eqb, ltb}
 use lib.ListN.{length}
 use Rattle.sets.specs.Lists.{any, keep}
 use Rattle.sets.specs.Value.{bytes, setBytes}
-use Rattle.percolation.specs.Percolate.{Community, communities}
+use Rattle.percolation.specs.Percolate.{Community, unionAt, communities}
 use Rattle.percolation.specs.Links.{Link, family}
 use Rattle.percolation.specs.Levels.{levels, joinedAt}
 
--- a line at its start: the weight of its level, the numbers of the lines that it joins, its class's smallest clique and union
+-- A line at its start: the weight of its level, the numbers of the lines that it joins, and its class's smallest clique.
 pub record Start : Type 0 where
   pub weight : ℕ
   pub joins : List ℕ
   pub small : ℕ
-  pub whole : ℕ
 
 -- a class of a level, by its smallest clique, and the number of its line
 pub record Branch : Type 0 where
@@ -36,7 +35,7 @@ abbrev pub begins : ℕ → Community → ℕ → List ℕ → Level → Level
 begins w c i J rest =
     record {
       branches = record { small = c .small; number = i } ∷ rest .branches;
-      starts = record { weight = w; joins = J; small = c .small; whole = c .whole } ∷ rest .starts;
+      starts = record { weight = w; joins = J; small = c .small } ∷ rest .starts;
     }
 
 -- The class c at the weight w, by the classes of the level before that it holds. One: it continues that line; `same` is the rest of the level.
@@ -83,15 +82,38 @@ pub record Line : Type 0 where
 abbrev pub line : ℕ → ℕ → ℕ → ℕ → ℕ → Line
 line w j i s u = record { weight = w; joins = j; into = i; small = s; whole = u }
 
--- the lines X of all lines S, numbered from n
-unfoldable pub linesFrom : List Start → ℕ → List Start → List Line
-unfolding goesInto
-linesFrom S n [] = []
-linesFrom S n (x ∷ X) = line (x .weight) (length (x .joins)) (goesInto n 1 S) (x .small) (x .whole) ∷ linesFrom S (suc n) X
+-- the weight of the line that joins the line i, or 0, below every level
+unfoldable pub joinedAtWeight : ℕ → List Start → ℕ
+unfolding any
+joinedAtWeight i [] = 0
+joinedAtWeight i (x ∷ X) = cond (any (eqb i) (x .joins)) (x .weight) (joinedAtWeight i X)
+
+-- the last of a list, or v
+unfoldable pub lastOf : ℕ → List ℕ → ℕ
+lastOf v [] = v
+lastOf v (w ∷ W) = lastOf w W
+
+-- The last of the falling levels W at which the line i of the lines S is a line of its own: the last one above the weight of the line that it goes into, or
+-- the last of all where it goes into none.
+unfoldable pub lastLevel : List ℕ → List Start → ℕ → ℕ
+unfolding keep joinedAtWeight lastOf
+lastLevel W S i = lastOf 0 (keep (λ w. ltb (joinedAtWeight i S) w) W)
+
+module _ (L : List Link) (p k : ℕ) where
+  -- the union of the class of line i at its last level, where s is a clique of the class
+  unfoldable pub wholeOf : List ℕ → List Start → ℕ → ℕ → ℕ
+  unfolding lastLevel family unionAt
+  wholeOf W S i s = unionAt k (family L p k (lastLevel W S i)) s
+
+  -- the lines X of all lines S of the levels W, numbered from n
+  unfoldable pub linesFrom : List ℕ → List Start → ℕ → List Start → List Line
+  unfolding goesInto wholeOf
+  linesFrom W S n [] = []
+  linesFrom W S n (x ∷ X) = line (x .weight) (length (x .joins)) (goesInto n 1 S) (x .small) (wholeOf W S n (x .small)) ∷ linesFrom W S (suc n) X
 
 unfoldable pub tree : List Link → ℕ → ℕ → List Line
 unfolding startsFrom linesFrom levels
-tree L p k = let S = startsFrom L p k [] 0 (levels L) in linesFrom S 1 S
+tree L p k = let S = startsFrom L p k [] 0 (levels L) in linesFrom L p k (levels L) S 1 S
 
 -- 26 bytes a line: weight (2), lines joined (4), the line it goes into or 0 (4), smallest clique, union
 unfoldable pub treeBytes : List Line → List ℕ

@@ -1,5 +1,5 @@
--- Model of the code, step by step on lists: marks at the level's end, lines in their places, their numbers, and the lines that they go into. What these
--- steps give is proved of them (proofs/). Assumes nothing.
+-- Model of the code, step by step on lists: marks at the level's end, lines in their places, their numbers, the lines that they go into, and the
+-- unions that they grew to. What these steps give is proved of them (proofs/). Assumes nothing.
 use mathlib.Core.Path.{_≡_}
 use mathlib.Core.Bool.{Bool, true, false, cond, not, _&&_, _||_}
 use mathlib.Core.List.{List, [], _++_, map}
@@ -12,7 +12,7 @@ use Rattle.sets.specs.Value.{row, store, numberAt}
 use Rattle.percolation.specs.Tree.{Start, Line, line, treeBytes}
 use Rattle.slots.specs.Tables.{rootOf}
 use Rattle.listings.specs.Model.{rootSlots}
-use Rattle.tree_lines.specs.LineModel.{lineLength, byLine, linesWith, changed, holding, Redirects}
+use Rattle.tree_lines.specs.LineModel.{lineLength, byLine, linesWith, changed, holding, Redirects, Regrows}
 
 -- ---- the end of a level
 
@@ -108,6 +108,16 @@ wentInto es ms us f (suc i) =
       | false ↦ wentInto es ms us f i
     ]
 
+-- the lines of the classes that end below n have the unions that stand there, the others those that u says
+unfoldable pub grewTo : List ℕ → List ℕ → List ℕ → (ℕ → ℕ) → ℕ → ℕ → ℕ
+unfolding changed rootOf numberAt row
+grewTo es ms us u zero = u
+grewTo es ms us u (suc i) =
+    elim (eqb (rootOf es i) i) [
+      | true ↦ changed (grewTo es ms us u i) (numberAt ms (suc i)) (row us i)
+      | false ↦ grewTo es ms us u i
+    ]
+
 -- the same, for lines that go into f, in these tables
 abbrev pub numbersOf : ℕ → ℕ → ℕ → (ℕ → ℕ) → List ℕ → List ℕ → Numbering
 numbersOf n a i f ms us = numbered n a i (numbering f ms us)
@@ -115,6 +125,10 @@ numbersOf n a i f ms us = numbered n a i (numbering f ms us)
 -- the output after the absorbed classes below i sent their lines into others
 abbrev pub WentTo : List ℕ → List ℕ → List ℕ → List ℕ → ℕ → ℕ → List ℕ → Type 0
 WentTo es ms us old n i out = Redirects (λ f. wentInto es ms us f i) old n out
+
+-- the output after the classes that end below i showed their unions in their lines
+abbrev pub GrewTo : List ℕ → List ℕ → List ℕ → List ℕ → ℕ → ℕ → List ℕ → Type 0
+GrewTo es ms us old n i out = Regrows (λ u. grewTo es ms us u i) old n out
 
 -- the output after the slots below i: the lines that start there stand behind the first a, where there is room for those of `used` slots
 abbrev pub FilledTo : ℕ → List ℕ → List ℕ → List ℕ → ℕ → ℕ → List ℕ → ℕ → ℕ → List ℕ → Type 0
@@ -125,23 +139,25 @@ FilledTo w es ms us n used old a i out =
 -- the tables and the output after line m of n has its number
 abbrev pub NumbersOne : ℕ → ℕ → List ℕ → List ℕ → List ℕ → ℕ → List ℕ → List ℕ → List ℕ → Type 0
 NumbersOne b m ms us old n ms' us' out =
-    (f : ℕ → ℕ) (X : List Start) (rest : List ℕ) → old ≡ holding f X rest → length X ≡ n
-    → (out ≡ holding (numberedAt b (endOf f m) m (numbering f ms us) .into) X rest) × (ms' ≡ store ms (suc (endOf f m)) m)
+    (f u : ℕ → ℕ) (X : List Start) (rest : List ℕ) → old ≡ holding f u X rest → length X ≡ n
+    → (out ≡ holding (numberedAt b (endOf f m) m (numbering f ms us) .into) u X rest) × (ms' ≡ store ms (suc (endOf f m)) m)
     × (us' ≡ store us (suc (endOf f m)) 0)
 
 -- the tables and the output after i lines behind the first a have their numbers, of n lines
 abbrev pub NumbersTo : ℕ → ℕ → ℕ → List ℕ → List ℕ → List ℕ → ℕ → List ℕ → List ℕ → List ℕ → Type 0
 NumbersTo b a i ms us old n ms' us' out =
-    (f : ℕ → ℕ) (X : List Start) (rest : List ℕ) → old ≡ holding f X rest → length X ≡ n
-    → (out ≡ holding (numbersOf b a i f ms us .into) X rest) × (ms' ≡ numbersOf b a i f ms us .smallest)
+    (f u : ℕ → ℕ) (X : List Start) (rest : List ℕ) → old ≡ holding f u X rest → length X ≡ n
+    → (out ≡ holding (numbersOf b a i f ms us .into) u X rest) × (ms' ≡ numbersOf b a i f ms us .smallest)
     × (us' ≡ numbersOf b a i f ms us .unions)
 
 -- What a level does to the two tables and to the output, where n lines stand and b slots were used before it, and cs are the counts. The starts X behind S
--- are those of the lines that start, where g gives the slots where their classes end, and for S the lines that they go into.
+-- are those of the lines that start, where g gives the slots where their classes end, and for S the lines that they go into; u gives the unions of them all.
 abbrev pub WritesLevel : ℕ → ℕ → ℕ → ℕ → List ℕ → List ℕ → List ℕ → List ℕ → List ℕ → List ℕ → List ℕ → Type 0
 WritesLevel b used w n es ms cs old ms' us' out =
-    (g : ℕ → ℕ) (S X : List Start) (rest : List ℕ) → old ≡ holding g S rest → length S ≡ n
-    → startLines w es ms cs b used ≡ linesWith g (1 + n) X → length X * lineLength ≤ length rest
+    (g u : ℕ → ℕ) (S X : List Start) (rest : List ℕ) → old ≡ holding g u S rest → length S ≡ n
+    → startLines w es ms cs b used ≡ linesWith g u (1 + n) X → length X * lineLength ≤ length rest
     → (ms' ≡ numbersOf b n (length X) g ms cs .smallest) × (us' ≡ wiped es (numbersOf b n (length X) g ms cs .unions) used)
     × (out ≡ holding (wentInto es (numbersOf b n (length X) g ms cs .smallest) (numbersOf b n (length X) g ms cs .unions)
-    (numbersOf b n (length X) g ms cs .into) b) (S ++ X) (drop (length X * lineLength) rest))
+    (numbersOf b n (length X) g ms cs .into) b)
+    (grewTo es (numbersOf b n (length X) g ms cs .smallest) (numbersOf b n (length X) g ms cs .unions) u used) (S ++ X)
+    (drop (length X * lineLength) rest))

@@ -1,4 +1,5 @@
-// The end of a level of the merge tree, in the tables of the sequential run: the lines that start, their numbers, and the lines that go into them.
+// The end of a level of the merge tree, in the tables of the sequential run: the lines that start, their numbers, the lines that go into them, and
+// what each line grew to.
 ghost use mathlib.Core.Path.{_≡_};
 ghost use mathlib.Core.Bool.{cond, _&&_};
 ghost use Prim.Native.Nat.{suc, _+_, _-_, _^_, _<_, _≤_};
@@ -7,7 +8,7 @@ ghost use lib.ListN.{length};
 ghost use Rattle.sets.specs.Value.{store, numberAt};
 ghost use Rattle.slots.specs.Tables.{rootOf};
 ghost use Rattle.tree_lines.specs.LineModel.{changed, Redirects};
-ghost use Rattle.tree_levels.specs.LevelModel.{absorbed, moreJoins, joinCounts, joinsAt, startsAt, startSlots, wiped, WentTo, FilledTo, NumbersOne, NumbersTo, WritesLevel};
+ghost use Rattle.tree_levels.specs.LevelModel.{absorbed, moreJoins, joinCounts, joinsAt, startsAt, startSlots, wiped, WentTo, GrewTo, FilledTo, NumbersOne, NumbersTo, WritesLevel};
 
 // Whether slot i ended a class at the end of the level before and ends none now.
 fn absorbed(entries: &[u32], unions: &[u64], i: usize) -> bool
@@ -218,6 +219,28 @@ fn join_lines(
     }
 }
 
+// Each class that ends below `used` shows its union in its line, one of n. The line of a class that was absorbed keeps what the level before showed.
+fn show_growth(
+    entries: &[u32],
+    smallest: &[u64],
+    unions: &[u64],
+    used: usize,
+    out: &mut [u8],
+    n: usize,
+)
+    ensures { λ _. ⌜ GrewTo (now (entries .entry)) (now (smallest .entry)) (now (unions .entry)) (now (out .entry)) n used (now (out .exit)) ⌝ }
+{
+    let mut r = 0;
+    while r < used {
+        let after = r + 1;
+        if joining::is_root(entries, r) {
+            let line = slots::note_at(smallest, after) as usize;
+            tree_lines::put_whole(out, n, line, sets::at(unions, r));
+        }
+        r = after;
+    }
+}
+
 // A level of the first pass, after its links: how many lines start, where `before` slots were used before it and `used` are now.
 pub fn count_level(entries: &[u32], unions: &mut [u64], before: usize, used: usize) -> usize
     ensures { λ r. ⌜ (r ≡ length (startSlots (now (entries .entry)) (joinCounts (now (entries .entry)) (now (unions .entry)) before) before used)) × (r ≤ used) ⌝ }
@@ -229,8 +252,8 @@ pub fn count_level(entries: &[u32], unions: &mut [u64], before: usize, used: usi
     n
 }
 
-// A level of the second pass, after its links: its lines behind the first n, with their numbers, and the lines that they join go into them. Gives how many
-// lines there are then. For sister crates: the slots of a table are few.
+// A level of the second pass, after its links: its lines behind the first n, with their numbers, the lines that they join go into them, and each line
+// that goes on shows its union. Gives how many lines there are then. For sister crates: the slots of a table are few.
 pub fn write_level(
     entries: &[u32],
     smallest: &mut [u64],
@@ -249,6 +272,7 @@ pub fn write_level(
     let m = put_lines(entries, smallest, unions, before, used, weight, out, n);
     number_lines(smallest, unions, before, out, n, m);
     join_lines(entries, smallest, unions, before, out, m);
+    show_growth(entries, smallest, unions, used, out, m);
     wipe(entries, unions, used);
     m
 }

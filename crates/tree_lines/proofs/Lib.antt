@@ -1,2 +1,2 @@
-pub mod IntoFields
+pub mod LineFields
 pub mod LinePlaces

@@ -1,17 +1,22 @@
--- Lines as records of the output: their bytes, one more written among those of its level, and room for it. Assumes nothing.
+-- Lines as records of the output: their bytes, one more written among those of its level, room for it, and which lines there are. Assumes nothing.
 use mathlib.Core.Path.{_≡_, refl, sym, ap, _∙_}
+use mathlib.Core.Logic.{_⊎_, inl, inr}
+use mathlib.Core.Bool.{true, false, _&&_}
 use mathlib.Core.List.{List, [], _++_}
 use Prim.Native.Nat.{ℕ, _+_, _*_, _/_, _≤_, _<_}
 use native.Mathlib.Omega.{arith}
+use lib.Dec.{leb}
 use lib.ListN.{length, length-append}
 use lib.Seq.{sets}
+use borrow.Author.Tests.{leb-true, le-leb, lt-leb}
 use Rattle.sets.specs.Value.{bytes, setBytes, setLength, withSet}
+use Rattle.sets.proofs.Tests.{never, and-intro, and-left, and-right, and-stop, and-go, lt-or-le}
 use Rattle.sets.proofs.SetBytes.{bytes-length, set-length}
 use Rattle.percolation.specs.Tree.{Line, line, treeBytes}
 use Rattle.records.specs.Model.{Opened}
 use Rattle.records.proofs.Numbers.{Field, writes-sets, sets-writes, writes-set, writes-both}
 use Rattle.records.proofs.InBytes.{records-none, records-append, records-length, gap-filled}
-use Rattle.tree_lines.specs.LineModel.{lineLength, lineBytes, PlacesLine}
+use Rattle.tree_lines.specs.LineModel.{lineLength, lineBytes, hasLine, PlacesLine}
 
 -- the fields before the sets
 abbrev pub headOf : ℕ → ℕ → ℕ → List ℕ
@@ -83,3 +88,39 @@ line-no-room old x rest X Y size n e h l f m =
     let both = treeBytes X ++ treeBytes Y in
     let lc : length both ≡ n * lineLength = ap length (sym (tree-append X Y)) ∙ tree-length (X ++ Y) ∙ ap (λ (i : ℕ). i * lineLength) l in
     absurd (omega (arith, ap (λ (k : ℕ). length old / k) e, lc, length-append both x, length-append (both ++ x) rest, ap length f))
+
+-- ---- a line that the output has, and one that it has not
+
+pub has-line : (len n m : ℕ) → hasLine len n m ≡ true → (1 ≤ m) × (m ≤ n) × (m ≤ len / lineLength)
+unfolding hasLine
+has-line len n m t =
+    let r = and-right (leb 1 m) (leb m n && leb m (len / lineLength)) t in (
+      leb-true 1 m (and-left (leb 1 m) (leb m n && leb m (len / lineLength)) t),
+      leb-true m n (and-left (leb m n) (leb m (len / lineLength)) r),
+      leb-true m (len / lineLength) (and-right (leb m n) (leb m (len / lineLength)) r),
+    )
+
+pub no-line : (len n m : ℕ) → hasLine len n m ≡ false → (m < 1) ⊎ ((n < m) ⊎ (len / lineLength < m))
+unfolding hasLine
+no-line len n m t = go (lt-or-le m 1) (lt-or-le n m) (lt-or-le (len / lineLength) m)
+  where
+    go : (m < 1) ⊎ (1 ≤ m) → (n < m) ⊎ (m ≤ n) → (len / lineLength < m) ⊎ (m ≤ len / lineLength) → (m < 1) ⊎ ((n < m) ⊎ (len / lineLength < m))
+    go (inl a) b c = inl a
+    go (inr a) (inl b) c = inr (inl b)
+    go (inr a) (inr b) (inl c) = inr (inr c)
+    go (inr a) (inr b) (inr c) =
+        never (leb 1 m && (leb m n && leb m (len / lineLength)))
+        (and-intro (leb 1 m) _ (le-leb 1 m a) (and-intro (leb m n) (leb m (len / lineLength)) (le-leb m n b) (le-leb m (len / lineLength) c))) t
+
+-- as the code tests it
+pub line-tested : (len n m size : ℕ) → size ≡ lineLength → 1 ≤ m → m ≤ n → leb m (len / size) ≡ hasLine len n m
+unfolding hasLine
+line-tested len n m size e a b = and-go (leb 1 m) _ (le-leb 1 m a) (and-go (leb m n) _ (le-leb m n b) (ap (λ (k : ℕ). leb m (len / k)) e))
+
+pub line-below : (len n m : ℕ) → m < 1 → false ≡ hasLine len n m
+unfolding hasLine
+line-below len n m a = and-stop (leb 1 m) _ (lt-leb 1 m a)
+
+pub line-above : (len n m : ℕ) → 1 ≤ m → n < m → false ≡ hasLine len n m
+unfolding hasLine
+line-above len n m a b = and-go (leb 1 m) _ (le-leb 1 m a) (and-stop (leb m n) _ (lt-leb m n b))

@@ -1,4 +1,5 @@
-// Lines in the output of the merge tree: a line of a tree in bytes, in its place among others, and the field for the line that it goes into.
+// Lines in the output of the merge tree: a line of a tree in bytes, in its place among others, the field for the line that it goes into, and its
+// union.
 ghost use mathlib.Core.Path.{_≡_};
 ghost use mathlib.Core.List.{List};
 ghost use Prim.Native.Nat.{ℕ, _+_, _%_, _^_, _<_, _≤_};
@@ -6,7 +7,7 @@ ghost use lib.ListN.{length};
 ghost use lib.Seq.{sets};
 ghost use Rattle.sets.specs.Value.{num};
 ghost use Rattle.percolation.specs.Tree.{Start, line};
-ghost use Rattle.tree_lines.specs.LineModel.{lineLength, lineBytes, changed, holding, PlacesLine, Redirects};
+ghost use Rattle.tree_lines.specs.LineModel.{lineLength, lineBytes, changed, holding, hasLine, PlacesLine, Redirects, Regrows};
 use sets::Set;
 
 // How many bytes a line has.
@@ -59,37 +60,50 @@ pub fn put_line(
     put_fields(out, start, weight, joins, into, small, whole);
 }
 
-// The number in the field for the line that line m of n goes into; 0 where there is no such line.
-pub fn into_at(out: &[u8], n: usize, m: usize) -> usize
-    ensures { λ r. ⌜ ((f : ℕ → ℕ) (X : List Start) (rest : List ℕ) → now (out .entry) ≡ holding f X rest → length X ≡ n → 1 ≤ m → m ≤ n → r ≡ f m % 2 ^ 32) ⌝ }
-    ensures { λ r. ⌜ r < 2 ^ 32 ⌝ }
+// Whether the output has a line m, of n.
+fn has_line(out: &[u8], n: usize, m: usize) -> bool
+    ensures { λ r. ⌜ r ≡ hasLine (length (now (out .entry))) n m ⌝ }
 {
-    let size = line_length();
     if m < 1 {
-        return 0;
+        return false;
     }
     if n < m {
+        return false;
+    }
+    m <= out.len() / line_length()
+}
+
+// The number in the field for the line that line m of n goes into; 0 where there is no such line.
+pub fn into_at(out: &[u8], n: usize, m: usize) -> usize
+    ensures { λ r. ⌜ ((f u : ℕ → ℕ) (X : List Start) (rest : List ℕ) → now (out .entry) ≡ holding f u X rest → length X ≡ n → 1 ≤ m → m ≤ n → r ≡ f m % 2 ^ 32) ⌝ }
+    ensures { λ r. ⌜ r < 2 ^ 32 ⌝ }
+{
+    if !has_line(out, n, m) {
         return 0;
     }
-    if out.len() / size < m {
-        return 0;
-    }
-    records::four_at(out, (m - 1) * size + 6)
+    records::four_at(out, (m - 1) * line_length() + 6)
 }
 
 // Line m of n goes into line v; nothing changes where there is no line m.
 pub fn put_into(out: &mut [u8], n: usize, m: usize, v: usize)
     ensures { λ _. ⌜ Redirects (λ f. changed f m v) (now (out .entry)) n (now (out .exit)) ⌝ }
 {
-    let size = line_length();
-    if m < 1 {
+    if !has_line(out, n, m) {
         return;
     }
-    if n < m {
+    records::put_four(out, (m - 1) * line_length() + 6, v);
+}
+
+// Line m of n has the union `whole`; nothing changes where there is no line m.
+pub fn put_whole(out: &mut [u8], n: usize, m: usize, whole: Set)
+    ensures { λ _. ⌜ Regrows (λ u. changed u m (num whole)) (now (out .entry)) n (now (out .exit)) ⌝ }
+{
+    if !has_line(out, n, m) {
         return;
     }
-    if out.len() / size < m {
-        return;
-    }
-    records::put_four(out, (m - 1) * size + 6, v);
+    sets::put_bytes(
+        out,
+        (m - 1) * line_length() + 10 + sets::byte_count(),
+        whole,
+    );
 }

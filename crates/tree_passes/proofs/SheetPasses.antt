@@ -11,7 +11,7 @@ use Rattle.sets.specs.Lists.{keep, below}
 use Rattle.sets.specs.Value.{width, noRows}
 use Rattle.percolation.specs.Links.{Link, heavy, cliques, slots}
 use Rattle.percolation.specs.Steps.{legal}
-use Rattle.percolation.specs.Tree.{linesFrom, tree, treeBytes}
+use Rattle.percolation.specs.Tree.{tree, treeBytes}
 use Rattle.listings.specs.Model.{rootSlots}
 use Rattle.percolation.proofs.Ranges.{good-k}
 use Rattle.checks.proofs.Near.{near-none}
@@ -22,7 +22,7 @@ use Rattle.runs.specs.Lent.{checkCall, cleared}
 use Rattle.runs.proofs.Left.{cleared-room}
 use Rattle.runs.proofs.Admitted.{call-sheet, call-k, call-level}
 use Rattle.runs.proofs.InSheet.{parts-width, links-length, link-at, links-few}
-use Rattle.tree_lines.specs.LineModel.{lineLength}
+use Rattle.tree_lines.specs.LineModel.{lineLength, linesWith}
 use Rattle.tree_theory.proofs.RootsRest.{rest-further}
 use Rattle.tree_theory.proofs.ByRoots.{grown-none}
 use Rattle.tree_theory.proofs.LevelKept.{between-none}
@@ -100,7 +100,7 @@ module _ (s : List ℕ) (k : ℕ) (T : Tables) (ok : checkCall s k T ≡ accepte
     writing-room = omega (arith, room-out, tree-length (tree L p k))
 
     pub writing-first : (R : List ℕ) (U : Tables) → R ≡ noRows → U ≡ cleared T → Writing (linksOf s) (parts s) k 0 R U old 0 old
-    unfolding cleared linesFrom rootSlots keep below
+    unfolding cleared linesWith rootSlots keep below
     writing-first R U er eu =
         subst (λ (X : List ℕ). Writing L p k 0 X U old 0 old) (sym er)
         (subst (λ (X : Tables). Writing L p k 0 noRows X old 0 old) (sym eu) record {

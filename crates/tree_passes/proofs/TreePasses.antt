@@ -1,15 +1,18 @@
 -- A pass over the levels of a sheet: what holds before each level, and that after the last one the lines counted are those of the tree. Assumes nothing.
-use mathlib.Core.Path.{_≡_, refl, ap, _∙_, subst, subst⁻¹}
+use mathlib.Core.Path.{_≡_, refl, sym, ap, _∙_, subst, subst⁻¹}
 use mathlib.Core.Bool.{true}
-use mathlib.Core.List.{List, map}
+use mathlib.Core.List.{List, [], _∷_, _++_, map, append-nil, append-assoc}
 use Prim.Native.Nat.{ℕ, _+_, _≤_, _<_}
 use native.Mathlib.Omega.{arith}
 use lib.ListN.{length, getD, take, drop, length-append, length-map, take-append-drop}
+use lib.Seq.{take-at}
 use Rattle.sets.specs.Value.{width}
-use Rattle.percolation.specs.Links.{Link, heavy, cliques, slots}
+use Rattle.sets.proofs.ListLaws.{getD-member}
+use Rattle.percolation.specs.Links.{Link, heavy, cliques, family, slots}
 use Rattle.percolation.specs.Levels.{levels}
 use Rattle.percolation.specs.Steps.{legal}
 use Rattle.percolation.specs.Tree.{Start, tree}
+use Rattle.percolation.proofs.Accepted.{legal-positive}
 use Rattle.checks.specs.Neighbours.{Neighbours}
 use Rattle.slots.specs.Tables.{Tables, tables, room, rootOf}
 use Rattle.slots_theory.specs.Shows.{Shows}
@@ -19,7 +22,7 @@ use Rattle.runs.specs.Model.{rowsWith, tookLinks}
 use Rattle.runs.proofs.Ran.{slots-front, further-near}
 use Rattle.tree_levels.specs.LevelModel.{joinCounts, startSlots, wiped}
 use Rattle.tree_theory.specs.Model.{Rooted, rooted, Begun, begunLines, rootedNow, startsNow}
-use Rattle.tree_theory.proofs.RootsRest.{rest-further, levels-end}
+use Rattle.tree_theory.proofs.RootsRest.{cliques-take, rest-further, levels-rest, levels-end}
 use Rattle.tree_theory.proofs.ByRoots.{Grown, grown-take, grown-count}
 use Rattle.tree_theory.proofs.UnionsKept.{Bounded}
 use Rattle.tree_theory.proofs.ClassCounts.{Turned, counts-length, counts-bounded, counts-other, count-end}
@@ -50,6 +53,19 @@ withLinks L k i j R T = tookLinks k R T (drop i (take j L))
 abbrev pub startsIn : ℕ → Tables → ℕ
 startsIn b U = length (startSlots (U .entries) (joinCounts (U .entries) (U .unions) b) b (U .used))
 
+-- the levels so far are those before the ones to come
+front-same : (A B W : List ℕ) → A ++ W ≡ B ++ W → A ≡ B
+front-same A B W e =
+    let l : length B ≡ length A = omega (arith, ap length e, length-append A W, length-append B W) in
+    sym (take-at A W (length A) refl) ∙ ap (take (length A)) e ∙ take-at B W (length A) l
+
+pub past-same : (L : List Link) (p k : ℕ) (T U : Tables) (A B : List Rooted) (S X : List Start) (Z W : List ℕ)
+    (g : Grown L p k T A S Z) (h : Grown L p k U B X W) → Z ≡ W → g .past ≡ h .past
+past-same L p k T U A B S X Z W g h e = front-same (g .past) (h .past) W (ap (λ (l : List ℕ). g .past ++ l) (sym e) ∙ sym (g .falling) ∙ h .falling)
+
+pub past-all : (L : List Link) (p k : ℕ) (T : Tables) (A : List Rooted) (S : List Start) (W : List ℕ) (g : Grown L p k T A S W) → W ≡ [] → g .past ≡ levels L
+past-all L p k T A S W g e = sym (g .falling ∙ ap (λ (Z : List ℕ). g .past ++ Z) e ∙ append-nil (g .past))
+
 module _ (L : List Link) (p k i j w : ℕ) (v : NextLevel L p k i j w) (R : List ℕ) (T : Tables) (A : List Rooted) (S : List Start) (h : Passed L p k i R T A S) where
   abbrev U : Tables
   U = withLinks L k i j R T
@@ -75,6 +91,20 @@ module _ (L : List Link) (p k i j w : ℕ) (v : NextLevel L p k i j w) (R : List
   level-grown =
       grown-take L p k i j w (v .link) T U A S (v .lawful) (omega (arith, v .two)) (v .inside) (v .weighs) (v .first) (h .between .shows) shows
       (level-turned .stays) (h .grown)
+
+  pub level-shows : Shows p k (family L p k w) (withLinks L k i j R T)
+  level-shows = subst (λ (F : List ℕ). Shows p k F U) (cliques-take L j w (v .first) p k) shows
+
+  pub level-positive : 1 ≤ w
+  level-positive = omega (arith, v .weighs, legal-positive p L (v .lawful) (getD L i (v .link)) (getD-member L i (v .link) (v .inside)))
+
+  -- the level is the next one of those so far
+  pub level-past : level-grown .past ≡ h .grown .past ++ (w ∷ [])
+  level-past =
+      front-same (level-grown .past) (h .grown .past ++ (w ∷ [])) (levels (drop j L))
+      (sym (level-grown .falling) ∙ h .grown .falling
+      ∙ ap (λ (W : List ℕ). h .grown .past ++ W) (levels-rest L j w (v .first) p i (v .link) (v .lawful) (v .inside) (v .weighs))
+      ∙ sym (append-assoc (h .grown .past) (w ∷ []) (levels (drop j L))))
 
   -- what stands at slots that are no ends may change
   pub level-passed : (ms us : List ℕ) → SameEnds (withLinks L k i j R T) ms us

@@ -1,7 +1,7 @@
 -- The second pass over the levels of a sheet: what holds before each level, and that after the last one the output holds the tree. Assumes nothing.
 use mathlib.Core.Path.{_≡_, refl, sym, ap, ap₂, _∙_, subst, subst⁻¹}
 use mathlib.Core.Bool.{cond}
-use mathlib.Core.List.{List, [], _++_, map}
+use mathlib.Core.List.{List, [], _∷_, _++_, map}
 use Prim.Native.Nat.{ℕ, suc, _+_, _*_, _≤_, _<_, _^_}
 use native.Mathlib.Omega.{arith}
 use lib.ListN.{length, take, drop, length-append, length-map, length-drop}
@@ -9,24 +9,26 @@ use lib.Seq.{drop-drop}
 use Rattle.sets.specs.Value.{row}
 use Rattle.percolation.specs.Links.{Link}
 use Rattle.percolation.specs.Levels.{levels}
-use Rattle.percolation.specs.Tree.{Start, Line, goesInto, linesFrom, tree, treeBytes}
+use Rattle.percolation.specs.Tree.{Start, Line, goesInto, tree, treeBytes}
+use Rattle.percolation.proofs.Growth.{noStart}
 use Rattle.slots.specs.Tables.{Tables, tables, rootOf}
 use Rattle.listings.specs.Model.{rootSlots}
 use Rattle.runs.specs.Model.{rowsWith}
 use Rattle.tree_theory.specs.Model.{Rooted, rooted, Begun, endingAt, startsLine, begunLines, lineNumber, onlyNumber, rootedNow}
 use Rattle.tree_lines.specs.LineModel.{lineLength, linesWith}
-use Rattle.tree_levels.specs.LevelModel.{joinCounts, startLines, wiped, Numbering, numbersOf, wentInto, WritesLevel}
+use Rattle.tree_levels.specs.LevelModel.{joinCounts, startLines, wiped, Numbering, numbersOf, wentInto, grewTo, WritesLevel}
 use Rattle.tree_theory.proofs.RootsRest.{levels-end}
 use Rattle.tree_theory.proofs.ByRoots.{Grown, grown-bytes, grown-count, grown-fits}
-use Rattle.tree_lines.proofs.IntoFields.{lines-same}
+use Rattle.tree_lines.proofs.LineFields.{lines-same}
 use Rattle.tree_theory.proofs.ClassCounts.{Turned}
 use Rattle.sets.proofs.ListLaws.{map-at}
 use Rattle.tree_theory.proofs.BegunSlots.{slotsIn}
 use Rattle.tree_theory.proofs.LevelLines.{lines-agree, slot-lines}
-use Rattle.tree_theory.proofs.RootsLines.{lines-from}
-use Rattle.tree_theory.proofs.LevelStep.{withSlots, levelNumbers, slots-olds, slots-news, step-lines, step-ends, step-stored}
+use Rattle.tree_theory.proofs.RootsLines.{shownWhole, linesShown}
+use Rattle.tree_theory.proofs.LevelStep.{withSlots, levelNumbers, slots-olds, slots-news, step-into, step-ends, step-stored}
+use Rattle.tree_theory.proofs.LinesGrown.{step-wholes}
 use Rattle.tree_theory.proofs.LevelKept.{SameEnds, emptied}
-use Rattle.tree_passes.proofs.TreePasses.{NextLevel, Passed, withLinks, startsIn, level-turned, level-bounded, level-grown, level-passed, level-count}
+use Rattle.tree_passes.proofs.TreePasses.{NextLevel, Passed, withLinks, startsIn, past-same, past-all, level-turned, level-bounded, level-shows, level-positive, level-grown, level-past, level-passed, level-count}
 
 -- before link i, in the tables T, with n lines in the output, which held `old` before
 pub record Writing (L : List Link) (p k i : ℕ) (R : List ℕ) (T : Tables) (old : List ℕ) (n : ℕ) (out : List ℕ) : Type 0 where
@@ -38,7 +40,8 @@ pub record Writing (L : List Link) (p k i : ℕ) (R : List ℕ) (T : Tables) (ol
   pub number : ℕ → ℕ
   pub numbers : classes ≡ map (λ r. rooted r (number r)) (rootSlots (T .entries) (T .used))
   pub stored : (r : ℕ) → r < T .used → rootOf (T .entries) r ≡ r → row (T .smallest) (suc r) ≡ number r
-  pub bytes : out ≡ treeBytes (linesFrom starts 1 starts) ++ drop (length starts * lineLength) old
+  -- each line with the union of the last level so far at which it is a line of its own
+  pub bytes : out ≡ treeBytes (linesShown L p k (passed .grown .past) starts) ++ drop (length starts * lineLength) old
 
 module _ (L : List Link) (p k i j w : ℕ) (v : NextLevel L p k i j w) (old : List ℕ) (enough : length (tree L p k) * lineLength ≤ length old)
     (small : length old < 2 ^ 64) (R : List ℕ) (T : Tables) (n : ℕ) (out : List ℕ) (h : Writing L p k i R T old n out) where
@@ -69,11 +72,25 @@ module _ (L : List Link) (p k i j w : ℕ) (v : NextLevel L p k i j w) (old : Li
   abbrev N : ℕ → Numbering
   N x = numbersOf (T .used) (length S) x g (U .smallest) cs
 
+  -- the unions that stand first: those of the lines so far, then those of the new lines at their start
+  abbrev u0 : ℕ → ℕ
+  u0 = shownWhole L p k (h .passed .grown .past) S
+
+  abbrev wl : List ℕ
+  wl = map (row (U .unions)) sl
+
+  abbrev u : ℕ → ℕ
+  u = withSlots u0 (length S) wl
+
   turned : Turned T U
   turned = level-turned L p k i j w v R T A S (h .passed)
 
   new : Grown L p k U (rootedNow w (length S) U A) (S ++ X) (levels (drop j L))
   new = level-grown L p k i j w v R T A S (h .passed)
+
+  past-is : new .past ≡ h .passed .grown .past ++ (w ∷ [])
+  unfolding new
+  past-is = level-past L p k i j w v R T A S (h .passed)
 
   count-x : length X ≡ length B
   count-x = length-map B (λ (b : Begun). b .start)
@@ -91,19 +108,23 @@ module _ (L : List Link) (p k i j w : ℕ) (v : NextLevel L p k i j w) (old : Li
   many = omega (arith, within, total, count-x, enough, small)
 
   -- what stood before
-  before-lines : linesFrom S 1 S ≡ linesWith g 1 S
+  before-lines : linesWith (λ i. goesInto i 1 S) u0 1 S ≡ linesWith g u 1 S
   before-lines =
-      lines-from S 1 S
-      ∙ sym (lines-same g (λ i. goesInto i 1 S) 1 S (λ x l m. slots-olds (λ i. goesInto i 1 S) (length S) sl x (omega arith)))
+      sym (lines-same g u (λ i. goesInto i 1 S) u0 1 S
+      (λ x l m. (slots-olds (λ i. goesInto i 1 S) (length S) sl x (omega arith), slots-olds u0 (length S) wl x (omega arith))))
 
   none : Begun
-  none = record { slot = 0; start = record { weight = 0; joins = []; small = 0; whole = 0 } }
+  none = record { slot = 0; start = noStart }
 
-  new-lines : startLines w (U .entries) (U .smallest) cs (T .used) (U .used) ≡ linesWith g (1 + length S) X
+  new-lines : startLines w (U .entries) (U .smallest) cs (T .used) (U .used) ≡ linesWith g u (1 + length S) X
   new-lines =
       lines-agree T U turned (h .number) A (h .numbers) w
-      ∙ sym (slot-lines g (1 + length S) B none (λ x l.
-      ap g (let z : 1 + length S + x ≡ suc (length S + x) = omega arith in z) ∙ slots-news (λ i. goesInto i 1 S) (length S) sl x ∙ map-at (λ (b : Begun). b .slot) B x none 0 l))
+      ∙ sym (slot-lines (U .unions) g u (1 + length S) B none (λ x l.
+      let z : 1 + length S + x ≡ suc (length S + x) = omega arith in
+      let e = map-at (λ (b : Begun). b .slot) B x none 0 l in (
+        ap g z ∙ slots-news (λ i. goesInto i 1 S) (length S) sl x ∙ e,
+        ap u z ∙ slots-news u0 (length S) wl x ∙ map-at (row (U .unions)) sl x 0 0 (omega (arith, l, count-sl)) ∙ ap (row (U .unions)) e,
+      )))
 
   rest : List ℕ
   rest = drop (length S * lineLength) old
@@ -114,9 +135,10 @@ module _ (L : List Link) (p k i j w : ℕ) (v : NextLevel L p k i j w) (old : Li
 
   module _ (ms us next : List ℕ) (level : WritesLevel (T .used) (U .used) w (length S) (U .entries) (U .smallest) (joinCounts (U .entries) (U .unions) (T .used)) out ms us next) where
     wrote : (ms ≡ N (length X) .smallest) × (us ≡ wiped (U .entries) (N (length X) .unions) (U .used))
-        × (next ≡ treeBytes (linesWith (wentInto (U .entries) (N (length X) .smallest) (N (length X) .unions) (N (length X) .into) (T .used)) 1 (S ++ X)) ++ drop (length X * lineLength) rest)
+        × (next ≡ treeBytes (linesWith (wentInto (U .entries) (N (length X) .smallest) (N (length X) .unions) (N (length X) .into) (T .used))
+        (grewTo (U .entries) (N (length X) .smallest) (N (length X) .unions) u (U .used)) 1 (S ++ X)) ++ drop (length X * lineLength) rest)
     unfolding rest
-    wrote = level g S X rest (h .bytes ∙ ap (λ (Y : List Line). treeBytes Y ++ rest) before-lines) refl new-lines room-left
+    wrote = level g u S X rest (h .bytes ∙ ap (λ (Y : List Line). treeBytes Y ++ rest) before-lines) refl new-lines room-left
 
     same : length X ≡ length sl
     same = count-x ∙ sym count-sl
@@ -132,10 +154,21 @@ module _ (L : List Link) (p k i j w : ℕ) (v : NextLevel L p k i j w) (old : Li
     union-is : us ≡ wiped (U .entries) (levelNumbers (T .used) w U A S .unions) (U .used)
     union-is = wrote .1 ∙ ap (λ (x : ℕ). wiped (U .entries) (N x .unions) (U .used)) same
 
-    lines : linesWith (wentInto (U .entries) (N (length X) .smallest) (N (length X) .unions) (N (length X) .into) (T .used)) 1 (S ++ X) ≡ linesFrom (S ++ X) 1 (S ++ X)
+    -- each line goes where the definition says, and shows the union that it says
+    lines : linesWith (wentInto (U .entries) (N (length X) .smallest) (N (length X) .unions) (N (length X) .into) (T .used))
+        (grewTo (U .entries) (N (length X) .smallest) (N (length X) .unions) u (U .used)) 1 (S ++ X)
+        ≡ linesShown L p k (new .past) (S ++ X)
     lines =
-        ap (λ (x : ℕ). linesWith (wentInto (U .entries) (N x .smallest) (N x .unions) (N x .into) (T .used)) 1 (S ++ X)) same
-        ∙ step-lines L p k w T U turned (h .number) A (h .numbers) (h .stored) S (levels (drop i L)) (levels (drop j L)) (h .passed .grown) new many
+        ap (λ (x : ℕ). linesWith (wentInto (U .entries) (N x .smallest) (N x .unions) (N x .into) (T .used))
+        (grewTo (U .entries) (N x .smallest) (N x .unions) u (U .used)) 1 (S ++ X)) same
+        ∙ lines-same _ _ (λ i. goesInto i 1 (S ++ X)) (shownWhole L p k (new .past) (S ++ X)) 1 (S ++ X)
+        (λ m a b. (
+          step-into L p k w T U turned (h .number) A (h .numbers) (h .stored) S (levels (drop i L)) (levels (drop j L)) (h .passed .grown) new many
+              m a (omega arith),
+          step-wholes L p k w T U turned (h .number) A (h .numbers) (h .stored) S (levels (drop i L)) (levels (drop j L)) (h .passed .grown) new many
+              (level-bounded L p k i j w v R T A S (h .passed)) (omega (arith, v .two)) (level-shows L p k i j w v R T A S (h .passed))
+              (level-positive L p k i j w v R T A S (h .passed)) past-is u (λ x l z. slots-olds u0 (length S) wl x z) m a (omega arith),
+        ))
 
     left-over : drop (length X * lineLength) rest ≡ drop (length (S ++ X) * lineLength) old
     unfolding rest
@@ -154,7 +187,10 @@ module _ (L : List Link) (p k i j w : ℕ) (v : NextLevel L p k i j w) (old : Li
       number = λ r. cond (startsLine (U .entries) A r) (lineNumber r (length S) B) (onlyNumber (endingAt (U .entries) A r));
       numbers = refl;
       stored = step-stored L p k w T U turned (h .number) A (h .numbers) (h .stored) S (levels (drop i L)) (levels (drop j L)) (h .passed .grown) new many;
-      bytes = wrote .2 ∙ ap₂ (λ (Y : List Line) (t : List ℕ). treeBytes Y ++ t) lines left-over;
+      bytes = wrote .2 ∙ ap₂ (λ (Y : List Line) (t : List ℕ). treeBytes Y ++ t) lines left-over
+          ∙ ap (λ (E : List ℕ). treeBytes (linesShown L p k E (S ++ X)) ++ drop (length (S ++ X) * lineLength) old)
+          (past-same L p k U _ (rootedNow w (length S) U A) (rootedNow w (length S) U A) (S ++ X) (S ++ X) (levels (drop j L)) (levels (drop j L)) new
+          (level-passed L p k i j w v R T A S (h .passed) _ _ ends .grown) refl);
     }
 
     pub written-next : (n' : ℕ) → n' ≡ n + startsIn (T .used) U
@@ -187,4 +223,6 @@ pub writing-end : (L : List Link) (p k i : ℕ) (R : List ℕ) (T : Tables) (old
 writing-end L p k i R T old n out l h =
     let g : Grown L p k T (h .classes) (h .starts) [] = subst (λ (W : List ℕ). Grown L p k T (h .classes) (h .starts) W) (levels-end L i l) (h .passed .grown) in
     h .bytes
+    ∙ ap (λ (E : List ℕ). treeBytes (linesShown L p k E (h .starts)) ++ drop (length (h .starts) * lineLength) old)
+    (past-all L p k T (h .classes) (h .starts) (levels (drop i L)) (h .passed .grown) (levels-end L i l))
     ∙ ap₂ (λ (t : List ℕ) (x : ℕ). t ++ drop (x * lineLength) old) (grown-bytes L p k T (h .classes) (h .starts) g) (grown-count L p k T (h .classes) (h .starts) g)

@@ -11,13 +11,15 @@ use Rattle.percolation.specs.Percolate.{communities}
 use Rattle.percolation.specs.Links.{Link, heavy, cliques, family}
 use Rattle.percolation.specs.Levels.{levels}
 use Rattle.percolation.specs.Steps.{legal}
-use Rattle.percolation.specs.Tree.{Start, Branch, Level, levelOf, startsFrom, goesInto, linesFrom, tree, treeBytes}
+use Rattle.percolation.specs.Tree.{Start, Branch, Level, levelOf, startsFrom, goesInto, tree, treeBytes}
+use Rattle.percolation.proofs.Levels.{levels-falling}
 use Rattle.percolation.proofs.Tree.{allStarts, joins-below, joins-once}
+use Rattle.percolation.proofs.Growth.{Falls, falls-before, Standing, standing-none, standing-next}
 use Rattle.slots.specs.Tables.{Tables}
 use Rattle.slots_theory.specs.Shows.{Shows}
 use Rattle.slots_theory.proofs.Free.{Stays}
 use Rattle.tree_theory.specs.Model.{Rooted, Begun, begunLines, rootedNow, startsNow}
-use Rattle.tree_theory.proofs.RootsLines.{SameStarts, sameNone, same-append, same-length, SameSplit, same-split, goes-same, goes-none, tree-same, tree-length}
+use Rattle.tree_theory.proofs.RootsLines.{SameStarts, sameNone, same-append, same-length, SameSplit, same-split, goes-same, goes-none, linesShown, tree-same, tree-length}
 use Rattle.tree_theory.proofs.RootsLevel.{Matches, matches-none, Carried, carried-shown, step-starts, step-matches}
 use Rattle.tree_theory.proofs.RootsNumbers.{Within, joins-from, rooted-within}
 use Rattle.tree_theory.proofs.RootsRest.{cliques-take, cliques-front, rest-further, levels-rest}
@@ -31,6 +33,10 @@ pub record Grown (L : List Link) (p k : ℕ) (T : Tables) (A : List Rooted) (S :
   pub same : SameStarts S begun
   pub matches : Matches T A branches
   pub within : Within (length S) A
+  -- the levels so far, and which lines have classes at the last of them
+  pub past : List ℕ
+  pub falling : levels L ≡ past ++ W
+  pub standing : Standing L p k past begun branches
 
 module _ (L : List Link) (p k : ℕ) where
   -- before the first level
@@ -42,6 +48,9 @@ module _ (L : List Link) (p k : ℕ) where
     same = sameNone;
     matches = matches-none T e;
     within = λ x m. absurd (List·Memᴰ·not-nil m);
+    past = [];
+    falling = refl;
+    standing = standing-none L p k;
   }
 
   -- the next level
@@ -56,6 +65,11 @@ module _ (L : List Link) (p k : ℕ) where
     same = same-append (g .same) new;
     matches = step-matches L p k v some T U shows carried A (g .branches) (g .matches) (length S);
     within = subst (λ (n : ℕ). Within n (rootedNow v (length S) U A)) count (rooted-within v U A (length S) (g .within));
+    past = g .past ++ (v ∷ []);
+    falling = g .falling ∙ sym (append-assoc (g .past) (v ∷ []) W);
+    standing = subst (λ (n : ℕ). Standing L p k (g .past ++ (v ∷ [])) (g .begun ++ levelOf L p k v (g .branches) n (communities k (family L p k v)) .starts)
+        (levelOf L p k v (g .branches) n (communities k (family L p k v)) .branches)) (sym (same-length (g .same)))
+        (standing-next L p k (g .past) (g .begun) (g .branches) (g .standing) v (falls-before (g .past) v W (subst Falls (g .falling) (levels-falling L))));
   }
     where
       l : Level
@@ -90,11 +104,8 @@ module _ (L : List Link) (p k : ℕ) where
     unfolding startsFrom
     grown-end = subst (λ (Z : List Start). SameStarts S Z) (sym (g .rest ∙ append-nil (g .begun))) (g .same)
 
-    pub grown-lines : linesFrom S 1 S ≡ tree L p k
-    grown-lines = tree-same L p k grown-end
-
-    pub grown-bytes : treeBytes (linesFrom S 1 S) ≡ treeBytes (tree L p k)
-    grown-bytes = ap treeBytes grown-lines
+    pub grown-bytes : treeBytes (linesShown L p k (levels L) S) ≡ treeBytes (tree L p k)
+    grown-bytes = ap treeBytes (tree-same L p k grown-end)
 
     pub grown-count : length S ≡ length (tree L p k)
     grown-count = same-length grown-end ∙ sym (tree-length L p k)

@@ -16,7 +16,8 @@ use Rattle.percolation.specs.Links.{Link}
 use Rattle.percolation.specs.Tree.{Start, goesInto}
 use Rattle.slots.specs.Tables.{Tables, rootOf}
 use Rattle.tree_theory.specs.Model.{Rooted, Begun, endingAt, startsLine, begunAt, begunLines, rootedNow, startsNow}
-use Rattle.tree_theory.proofs.RootsLines.{goes-here, goes-none, goes-kept, goes-later}
+use Rattle.percolation.proofs.Growth.{goes-here, noStart}
+use Rattle.tree_theory.proofs.RootsLines.{goes-none, goes-kept, goes-later}
 use Rattle.tree_theory.proofs.RootsNumbers.{begun-of}
 use Rattle.tree_theory.proofs.ByRoots.{Grown, grown-joins, grown-early}
 use Rattle.tree_theory.proofs.BegunSlots.{slotsIn, begun-start}
@@ -67,7 +68,7 @@ module _ (w : ℕ) (U : Tables) (A : List Rooted) (S : List Start) where
     pub goes-new : (j : ℕ) → j < length (slotsIn (begunLines w U A)) → (x : Rooted) → x ∈ A → rootOf (U .entries) (x .slot) ≡ getD (slotsIn (begunLines w U A)) j 0
         → goesInto (x .number) 1 (startsNow w U A S) ≡ suc (length S + j)
     goes-new j l x m e =
-        let d : Begun = record { slot = 0; start = record { weight = 0; joins = []; small = 0; whole = 0 } } in
+        let d : Begun = record { slot = 0; start = noStart } in
         let lb : j < length B = omega (arith, length-map B (λ b. b .slot)) in
         let b = getD B j d in
         let X1 = map (λ (c : Begun). c .start) (take j B) in

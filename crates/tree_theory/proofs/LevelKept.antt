@@ -138,6 +138,9 @@ grown-next L p k U A S W ms us s g = record {
     back = m .back;
   };
   within = g .within;
+  past = g .past;
+  falling = g .falling;
+  standing = g .standing;
 }
   where
     m : Matches U A (g .branches)

@@ -16,7 +16,7 @@ use Rattle.sets.proofs.RowNumbers.{small-fits, none-fits, number-is}
 use Rattle.slots.specs.Tables.{rootOf}
 use Rattle.tree_lines.specs.LineModel.{changed}
 use Rattle.tree_levels.specs.LevelModel.{absorbed, Numbering, numbering, endOf, numberedAt, numbered, wentInto}
-use Rattle.tree_lines.proofs.IntoFields.{changed-at, changed-other}
+use Rattle.tree_lines.proofs.LineFields.{changed-at, changed-other}
 use Rattle.tree_levels.proofs.LineNumbers.{into-yes, into-no}
 use Rattle.tree_theory.proofs.UnionsKept.{Bounded, bounded-store}
 

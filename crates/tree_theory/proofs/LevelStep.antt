@@ -15,7 +15,7 @@ use Rattle.sets.proofs.Tests.{never, split, lt-or-le, same-or-not, and-intro, a
 use Rattle.sets.proofs.RowNumbers.{number-is}
 use Rattle.sets.proofs.ListLaws.{any-of, any-none, keep-at, elem-at, elem-of, below-at, getD-member, distinct-index, member-index, member-length}
 use Rattle.percolation.specs.Links.{Link}
-use Rattle.percolation.specs.Tree.{Start, goesInto, linesFrom}
+use Rattle.percolation.specs.Tree.{Start, goesInto}
 use Rattle.slots.specs.Tables.{Tables, rootOf}
 use Rattle.joining.proofs.Follow.{root-le, root-twice}
 use Rattle.slots.proofs.Lengths.{room-within}
@@ -23,17 +23,14 @@ use Rattle.slots_theory.proofs.Free.{paired-free}
 use Rattle.listings.specs.Model.{rootSlots}
 use Rattle.listings.proofs.Listed.{roots-of, roots-at}
 use Rattle.tree_theory.specs.Model.{Rooted, rooted, Begun, endingAt, startsLine, begunLines, lineNumber, onlyNumber, rootedNow, startsNow}
-use Rattle.tree_lines.specs.LineModel.{linesWith}
 use Rattle.tree_levels.specs.LevelModel.{absorbed, joinCounts, Numbering, numbersOf, wentInto}
 use Rattle.tree_theory.proofs.ByRoots.{Grown}
 use Rattle.tree_levels.proofs.LevelSteps.{absorbed-end}
-use Rattle.tree_lines.proofs.IntoFields.{lines-same}
 use Rattle.tree_theory.proofs.ClassCounts.{Turned, was-end, after-empty, absorbed-was, absorbed-is, absorbed-lower, absorbed-row, ending-old, ending-new, counts-other, counts-length, counts-rows, counts-bounded, count-end, turned-room, turned-rows}
 use Rattle.tree_theory.proofs.UnionsKept.{Bounded}
 use Rattle.tree_theory.proofs.LevelKept.{SameEnds}
 use Rattle.tree_theory.proofs.BegunSlots.{slotsIn, begun-distinct, begun-slot, begun-place, begun-number}
 use Rattle.tree_theory.proofs.LevelNumbers.{Starting, Given, given-all, Joined, joined-all}
-use Rattle.tree_theory.proofs.RootsLines.{lines-from}
 use Rattle.tree_theory.proofs.LevelJoins.{goes-on, goes-new, goes-none-new}
 
 -- what stands in the fields of the lines before they get their numbers: for the first n as f says, then the slots sl
@@ -300,8 +297,11 @@ module _ (L : List Link) (p k w : ℕ) (T U : Tables) (h : Turned T U) (number :
           keep-it (inl e) = e ∙ sym same
           keep-it (inr e) = e
 
-  goes-there : (m : ℕ) → 1 ≤ m → m < 1 + length (S ++ X) → g3 m ≡ G m
-  goes-there m low high = go (lt-or-le n m)
+  -- each line goes where the definition says
+  pub step-into : (m : ℕ) → 1 ≤ m → m ≤ length (startsNow w U A S)
+      → wentInto (U .entries) (levelNumbers (T .used) w U A S .smallest) (levelNumbers (T .used) w U A S .unions) (levelNumbers (T .used) w U A S .into) (T .used) m
+      ≡ goesInto m 1 (startsNow w U A S)
+  step-into m low high = go (lt-or-le n m)
     where
       long : length (S ++ X) ≡ n + length sl
       long = length-append S X ∙ ap (λ (x : ℕ). n + x) (length-map B (λ (b : Begun). b .start) ∙ sym (length-map B (λ (b : Begun). b .slot)))
@@ -312,10 +312,6 @@ module _ (L : List Link) (p k w : ℕ) (T U : Tables) (h : Turned T U) (number :
           let z : suc (n + j) ≡ m = omega arith in
           joined .past m b ∙ ap g2 (sym z) ∙ given .none j (omega (arith, long)) ∙ sym (goes-none-new w U A S L p k W new T Z old m b)
       go (inr b) = goes-old m low b
-
-  pub step-lines : linesWith (wentInto (U .entries) (levelNumbers (T .used) w U A S .smallest) (levelNumbers (T .used) w U A S .unions)
-      (levelNumbers (T .used) w U A S .into) (T .used)) 1 (startsNow w U A S) ≡ linesFrom (startsNow w U A S) 1 (startsNow w U A S)
-  step-lines = lines-same g3 G 1 (S ++ X) goes-there ∙ sym (lines-from (S ++ X) 1 (S ++ X))
 
   -- ---- what stands in the tables then
 

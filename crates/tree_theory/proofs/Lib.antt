@@ -6,6 +6,7 @@ pub mod LevelKept
 pub mod LevelLines
 pub mod LevelNumbers
 pub mod LevelStep
+pub mod LinesGrown
 pub mod RootsFew
 pub mod RootsLevel
 pub mod RootsLines

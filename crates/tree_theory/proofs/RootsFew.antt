@@ -143,7 +143,7 @@ module _ (L : List Link) (p k w : ℕ) (P : List Branch) where
       later r = (r .0, List·Memᴰ·tail (r .1), r .2, r .3)
 
       here : (D : List Branch) → heldBy L p k w P c ≡ D → {X : List Start} → (y ∈ X → Of C y)
-          → (y ≡ record { weight = w; joins = map num D; small = c .small; whole = c .whole }) ⊎ y ∈ X → Of (c ∷ C) y
+          → (y ≡ record { weight = w; joins = map num D; small = c .small }) ⊎ y ∈ X → Of (c ∷ C) y
       here D e b (inl f) = (c, List·Memᴰ·head refl, ap (λ (z : Start). z .small) f, ap (λ (z : Start). z .joins) f ∙ ap (map num) (sym e))
       here D e b (inr i) = later (b i)
 
@@ -183,11 +183,11 @@ module _ (L : List Link) (p k w : ℕ) (P : List Branch) where
       go : (D : List Branch) → length D ≡ length (keep (holds c) P) → (same more : Level) → Paid same t → Paid more t
           → Paid (classAt w n c D same more) (length (keep (holds c) P) + t)
       go [] e same l a b =
-          let x : Start = record { weight = w; joins = []; small = c .small; whole = c .whole } in
+          let x : Start = record { weight = w; joins = []; small = c .small } in
           (omega (arith, ap length (keep-yes leaf x (l .starts) refl), b .0), omega (arith, b .1))
       go (d ∷ []) e same l a b = (omega (arith, a .0), omega (arith, a .1))
       go (d ∷ g ∷ D) e same l a b =
-          let x : Start = record { weight = w; joins = map num (d ∷ g ∷ D); small = c .small; whole = c .whole } in
+          let x : Start = record { weight = w; joins = map num (d ∷ g ∷ D); small = c .small } in
           (omega (arith, ap length (keep-no leaf x (l .starts) (ne-eqb (length (x .joins)) 0 (λ f. omega arith))), b .0), omega (arith, b .1))
 
 -- ---- all lines

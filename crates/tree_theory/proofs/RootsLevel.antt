@@ -262,7 +262,6 @@ module _ (L : List Link) (p k v : ℕ) (P : List Branch) (U : Tables) (A : List 
     starts = rw kept (sameNext (record {
       weight = refl;
       small = refl;
-      whole = refl;
       count = length-map (endingAt (U .entries) A r) (λ x. x .number) ∙ s .count ∙ sym (length-map D (λ b. b .number));
       there = s .there;
       back = s .back;

@@ -40,7 +40,7 @@ unfolding endingAt row
 begunAt w T A r =
     record {
       slot = r;
-      start = record { weight = w; joins = map (λ x. x .number) (endingAt (T .entries) A r); small = row (T .smallest) r; whole = row (T .unions) r };
+      start = record { weight = w; joins = map (λ x. x .number) (endingAt (T .entries) A r); small = row (T .smallest) r };
     }
 
 -- lines that start stand by their smallest cliques

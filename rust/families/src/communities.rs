@@ -35,7 +35,9 @@ pub struct MeanWeight {
     pub remainder: u64,
 }
 
-/// A line of the merge tree. Lines are numbered from 1 in their order.
+/// A line of the merge tree. Lines are numbered from 1 in their order. Weight
+/// and smallest clique are those of its start; its union is that of its class
+/// at the last level before it goes into another line, or at the last of all.
 #[derive(Clone, Copy, Debug, PartialEq, Eq)]
 pub struct Line {
     pub weight: u16,

@@ -328,7 +328,8 @@ fn joined(links: &[Link], p: usize, k: usize, t: u16, [a, b]: [u64; 2]) -> bool 
 }
 
 /// The tree's lines level by level: those begun and not yet gone into
-/// another are as many as the communities, and each begins as one of them.
+/// another are as many as the communities, each begins as one of them, and
+/// its union is that of one at the last level before it goes into another.
 fn check_tree(links: &[Link], p: usize, k: usize) {
     let lines = fast::tree(links, p, k);
     for t in levels(links) {
@@ -340,11 +341,21 @@ fn check_tree(links: &[Link], p: usize, k: usize) {
         });
         assert_eq!(alive.count(), listing.len());
         for line in lines.iter().filter(|line| line.weight == t) {
-            let own = |c: &&Community| c.smallest == line.smallest && c.union == line.union;
+            let own = |c: &&Community| c.smallest == line.smallest && c.union & !line.union == 0;
             assert_eq!(listing.iter().filter(own).count(), 1);
             let number = lines.iter().position(|l| l == line).map(|i| i as u32 + 1);
             let into = lines.iter().filter(|l| Some(l.into) == number);
             assert_eq!(into.count() as u32, line.joins);
+        }
+    }
+    for line in &lines {
+        let last = definition::last_level(links, &lines, line);
+        let own = |c: &&Community| joined(links, p, k, last, [c.smallest, line.smallest]);
+        let listing = fast::listing(links, p, k, last);
+        let unions: Vec<u64> = listing.iter().filter(own).map(|c| c.union).collect();
+        assert_eq!(unions, [line.union]);
+        if line.into > 0 {
+            assert_eq!(line.union & !lines[line.into as usize - 1].union, 0);
         }
     }
     assert!(lines.is_sorted_by_key(|line| (std::cmp::Reverse(line.weight), line.smallest)));

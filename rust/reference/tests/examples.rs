@@ -61,6 +61,37 @@ fn p1_to_p4() {
     assert_eq!(definition::family_links(&sheet, 4, 3, 6, 14), None);
     assert_eq!(definition::meeting(&sheet, 4, 3, 7, 14), Some(5));
     assert_eq!(fast::meeting(&fast::cliques(&sheet, 4, 3), 7, 14), Some(5));
+    expect_tree(&sheet, 4, 3, &["8 joins 0 into 0 smallest 7 parts 15"]);
+}
+
+/// Both trees, each line from its weight on.
+fn expect_tree(links: &[Link], p: usize, k: usize, rows: &[&str]) {
+    let mut text = format!("parts {p} links {}\n", links.len());
+    for (i, row) in rows.iter().enumerate() {
+        text += &format!("line {} weight {row}\n", i + 1);
+    }
+    text += &format!("end {}\n", rows.len());
+    assert_eq!(
+        tree_text(p, links.len(), &definition::tree(links, p, k)),
+        text
+    );
+    assert_eq!(tree_text(p, links.len(), &fast::tree(links, p, k)), text);
+}
+
+/// The first class grows before the two join, the second at that level, which
+/// is not shown, and their class after it.
+#[test]
+fn a_line_shows_what_it_grew_to() {
+    let mut sheet = two_triangles();
+    sheet.extend(links(&[(0, 5, 3), (1, 5, 3)]));
+    sheet.extend(links(&[(1, 3, 2), (3, 6, 2), (4, 6, 2)]));
+    sheet.extend(links(&[(0, 7, 1), (1, 7, 1)]));
+    let rows = [
+        "4 joins 0 into 3 smallest 7 parts 39",
+        "4 joins 0 into 3 smallest 28 parts 28",
+        "2 joins 2 into 0 smallest 7 parts 255",
+    ];
+    expect_tree(&sheet, 8, 3, &rows);
 }
 
 #[test]
@@ -77,13 +108,12 @@ fn p5_to_p8() {
     let mut insert = |link: &Link| steps.step((*link).into()).map_err(|r| r.number);
     assert!(sheet[..6].iter().all(|link| insert(link).is_ok()));
     assert_eq!(insert(&sheet[6]), Err(15));
-    let text = "parts 5 links 7\n\
-        line 1 weight 4 joins 0 into 3 smallest 7 parts 7\n\
-        line 2 weight 4 joins 0 into 3 smallest 28 parts 28\n\
-        line 3 weight 2 joins 2 into 0 smallest 7 parts 31\n\
-        end 3\n";
-    assert_eq!(tree_text(5, 7, &definition::tree(&sheet, 5, 3)), text);
-    assert_eq!(tree_text(5, 7, &fast::tree(&sheet, 5, 3)), text);
+    let rows = [
+        "4 joins 0 into 3 smallest 7 parts 7",
+        "4 joins 0 into 3 smallest 28 parts 28",
+        "2 joins 2 into 0 smallest 7 parts 31",
+    ];
+    expect_tree(&sheet, 5, 3, &rows);
 }
 
 /// The request's own words: the last link goes, a heavier one may follow, and

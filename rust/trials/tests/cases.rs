@@ -165,6 +165,18 @@ fn mean_weight(trials: &mut Trials, case: &Value) {
     trials.family_mean_as(&sheet, call, &expected);
 }
 
+/// What a call that writes bytes and counts them is to give.
+fn written(case: &Value) -> Expected {
+    match answer(case.field("out")) {
+        Ok(ok) => Expected::answered(
+            number(ok.field("count")),
+            bytes(ok.field("data")),
+            left(case),
+        ),
+        Err(refusal) => Expected::refused(refusal, left(case)),
+    }
+}
+
 /// The threshold of a product stands as the bits of its float.
 fn measure(value: &Value) -> Measure {
     match value.field("product") {
@@ -184,20 +196,25 @@ fn listing_strength(trials: &mut Trials, case: &Value) {
         lengths: lengths(given.field("tables")),
         out: number(given.field("out_len")),
     };
-    let expected = match answer(case.field("out")) {
-        Ok(ok) => Expected::answered(
-            number(ok.field("count")),
-            bytes(ok.field("data")),
-            left(case),
-        ),
-        Err(refusal) => Expected::refused(refusal, left(case)),
-    };
+    let expected = written(case);
     let judge = Judge::new(&sheet);
     let found = judge
         .with(call.k)
         .strong_listing(call.measure, call.list, call.lengths, call.out);
     assert_eq!(found, expected, "{case:?}");
     trials.strong_as(&sheet, call, &expected);
+}
+
+fn merge_tree(trials: &mut Trials, case: &Value) {
+    let given = case.field("in");
+    let judge = Judge::new(&bytes(given.field("sheet")));
+    let judge = judge.with(number(given.field("k")));
+    let (tables, out) = (
+        lengths(given.field("tables")),
+        number(given.field("out_len")),
+    );
+    assert_eq!(judge.tree(tables, out), written(case), "{case:?}");
+    trials.tree(&judge, tables, out);
 }
 
 /// A start on both sides, which must agree.
@@ -332,6 +349,7 @@ fn tried(trials: &mut Trials, case: &Value) {
         "write_network" => write_network(trials, case),
         "mean_weight" => mean_weight(trials, case),
         "listing_strength" => listing_strength(trials, case),
+        "merge_tree" => merge_tree(trials, case),
         "steps" => steps(trials, case),
         "state_check" => state_check(trials, case),
         call => panic!("no trial for the call {call}"),

@@ -112,6 +112,8 @@ fn merge_tree() {
     }
     let refused = tree(&sheet, 3, Space::Slots(6)).unwrap_err();
     assert_eq!((refused.number, refused.place), (15, 0));
+    let grown = vec![line(8, 0, None, 7, 15)];
+    assert_eq!(tree(&p1(), 3, Space::Bound), Ok(grown));
 }
 
 #[test]

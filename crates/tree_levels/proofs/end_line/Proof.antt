@@ -9,7 +9,9 @@ use Rattle.tree_levels.proofs.end_line.Statement.{statement}
 use Rattle.tree_levels.proofs.end_line.Tie as tie
 
 returns : tie.Need-returns
-returns c f X rest e l = let a = c .before .before .before .args in end-new _ f (changed f (numberAt (a .smallest .now) (suc (a .r))) (a .m)) X rest (a .r) (a .before) (c .if1 .taken) e
+returns c f u X rest e l =
+    let a = c .before .before .before .args in
+    end-new _ f (changed f (numberAt (a .smallest .now) (suc (a .r))) (a .m)) u X rest (a .r) (a .before) (c .if1 .taken) e
 
 add-note-at : tie.Need-add-note-at
 add-note-at c = search needs
@@ -24,11 +26,12 @@ same-length : tie.Need-same-length
 same-length c = search needs
 
 returns-2 : tie.Need-returns-2
-returns-2 c f X rest e l =
+returns-2 c f u X rest e l =
     let a = c .before .before .before .before .before .before .before .before .args in
-    end-old _ f (changed f (numberAt (a .smallest .now) (suc (a .r))) (a .m)) X rest (a .r) (a .before) (c .before .before .before .before .before .if1 .left)
-    (c .before .before .put-into .ensures f X rest e l
-    ∙ ap (λ (x : ℕ). holding (changed f x (a .m)) X rest) (c .before .before .before .before .note-at .ensures ∙ ap (numberAt (a .smallest .now)) (add-one (a .r))))
+    end-old _ f (changed f (numberAt (a .smallest .now) (suc (a .r))) (a .m)) u X rest (a .r) (a .before) (c .before .before .before .before .before .if1 .left)
+    (c .before .before .put-into .ensures f u X rest e l
+    ∙ ap (λ (x : ℕ). holding (changed f x (a .m)) u X rest)
+    (c .before .before .before .before .note-at .ensures ∙ ap (numberAt (a .smallest .now)) (add-one (a .r))))
 
 pub end-line-spec : {M : Type 1} → statement M
 end-line-spec =

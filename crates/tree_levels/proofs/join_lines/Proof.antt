@@ -61,7 +61,7 @@ loop-again c =
       went-yes (a .entries .now) ms (a .unions .now) (a .out .now) (l .out) (a .n) (l .i) (l .inv .2) _ _ _ (t ∙ w .0 .taken)
           (w .2 .ensures ∙ ap (numberAt ms) (add-one (l .i)))
           (w .3 .ensures ∙ ap (numberAt ms) (add-one _ ∙ ap suc (w .1 .ensures .0)))
-          (λ f X rest e k. w .8 ∙ w .5 .ensures f X rest e k),
+          (λ f u X rest e k. w .8 ∙ w .5 .ensures f u X rest e k),
     ))
     (λ w. (omega arith, ap length (w .1) ∙ l .inv .1, went-no (a .entries .now) ms (a .unions .now) (a .out .now) (l .out) (a .n) (l .i) (l .inv .2) _ (t ∙ w .0 .left) (w .1)))
     (c .if1 .came)

@@ -36,11 +36,15 @@ same-length-3 : tie.Need-same-length-3
 same-length-3 c = search needs
 
 returns : tie.Need-returns
-returns c f X rest e l =
-    let a = c .before .before .before .before .before .before .before .before .before .before .before .before .before .before .before .before .before .before .before .before .before .before .args in
-    let p = c .before .before .before .before .before .before .before .before .before .before .before .before .before .before .before .before .before .before .before .before .before .before .pre in
-    let z = c .before .before .before .before .before .before .before .before .before .before .before .before .before .before .before .before .before .into-at .ensures .0 f X rest e l (p .0) (p .1) in (
-      numbered-one _ (a .smallest .now) (a .unions .now) f X rest (a .before) _ (a .m) z (c .before .before .before .before .before .before .before .before .before .before .put-into .ensures _ X rest (c .before .before .before .before .before .before .before .before .before .before .before .before .before .before .end-line .ensures f X rest e l) l),
+returns c f u X rest e l =
+    let put = c .before .before .before .before .before .before .before .before .before .before in
+    let ended = put .before .before .before .before in
+    let read = ended .before .before .before in
+    let first = read .before .before .before .before .before in
+    let a = first .args in
+    let z = read .into-at .ensures .0 f u X rest e l (first .pre .0) (first .pre .1) in (
+      numbered-one _ (a .smallest .now) (a .unions .now) f u X rest (a .before) _ (a .m) z
+          (put .put-into .ensures _ u X rest (ended .end-line .ensures f u X rest e l) l),
       stored-one (a .smallest .now) _ f _ (a .m) _ _ z refl (c .before .before .before .before .before .before .put-note .ensures),
       stored-one (a .unions .now) _ f _ (a .m) _ _ z refl (c .before .before .put-note2 .ensures),
     )
