@@ -9,7 +9,7 @@
  *
  * The four tables are slices of one length: sets, joining entries, smallest cliques, unions. Their contents before a
  * call on a sheet do not matter; such a call that comes as far as 15 leaves them zero. families_slot_bound says how
- * many slots suffice.
+ * many slots suffice; families_needed tells how many a listing of a sheet will use.
  *
  * The steps families_start, families_insert and families_take_back are lent a journal too. It has 2,016 entries, one for
  * each possible link: the links that remain in order, each lower * 2^32 + higher * 2^16 + weight, then zeros. Tables and
@@ -41,7 +41,7 @@ extern "C" {
 #endif
 
 /* The number of the latest change request that has landed, in order of landing; 0: the base. */
-#define FAMILIES_EDITION 7
+#define FAMILIES_EDITION 8
 
 /* On a refusal count and parts are 0. parts is 0 from every call but families_read. */
 typedef struct {
@@ -72,6 +72,12 @@ typedef struct {
     families_outcome outcome;
     uint64_t sum, quotient, remainder;
 } families_mean;
+
+/* The numbers of k-cliques, of joins and of slots. On a refusal they are 0. */
+typedef struct {
+    families_outcome outcome;
+    uint64_t cliques, joins, slots;
+} families_need;
 
 /* Reads a sheet's network into lent space: 8 bytes a name, and a number in each list for every link. count = links, parts = parts. */
 families_outcome families_read(
@@ -235,6 +241,19 @@ families_mean families_family_mean(
     uint32_t *entries, size_t entries_length,
     uint64_t *smallest, size_t smallest_length,
     uint64_t *unions, size_t unions_length);
+
+/*
+ * What the sequential run needs of a sheet at t, before it: its k-cliques over links of weight t or more, k joins for each, and the slots that it will
+ * use. With that many slots, up to 16,777,216, and output enough families_listing_sequential is accepted; with fewer it gets 15. Refused: the sheet
+ * (1 to 9, 21), 10. count = 0. C cuts a threshold above 65,535 silently.
+ */
+families_need families_needed(const uint8_t *sheet, size_t sheet_length, size_t k, uint16_t t);
+
+/*
+ * Writes the sheet of p parts with all pairs linked at weight 1, by lower then higher part, and names P00, P01 and on. No sheet of p parts needs more
+ * slots for k at any t than this one at t 1. 8,584 bytes are enough for any. Refused: 4, 10, 16. count = bytes.
+ */
+families_outcome families_fullest_sheet(size_t p, size_t k, uint8_t *out, size_t out_length);
 
 /*
  * The merge tree of a sheet: 26 bytes a line. count = lines. Weight and smallest clique are those of the line's start; its

@@ -241,6 +241,33 @@ static void means(void)
     show_mean("mean of no clique at t 5", families_family_mean(p9, o.count, 3, 5, 7, TABLES(P9_SLOTS)));
 }
 
+static void show_need(const char *call, families_need n)
+{
+    show(call, n.outcome);
+    printf("  cliques %" PRIu64 " joins %" PRIu64 " slots %" PRIu64 "\n", n.cliques, n.joins, n.slots);
+}
+
+/* What the fullest sheet needs, then a run with that many slots and with one fewer. */
+static void needs(void)
+{
+    static uint8_t full[8584];
+    families_outcome o = families_fullest_sheet(5, 3, full, sizeof full);
+    show("fullest sheet of 5", o);
+    printf("  %.24s %d %d %d\n", full + 8, full[48], full[49], full[51]);
+    families_need n = families_needed(full, o.count, 3, 1);
+    show_need("its need", n);
+    show("with that many", families_listing_sequential(full, o.count, 3, 1, TABLES(n.slots), out, sizeof out));
+    show("with one fewer", families_listing_sequential(full, o.count, 3, 1, TABLES(n.slots - 1), out, sizeof out));
+    show_need("need, t 2", families_needed(full, o.count, 3, 2));
+    show_need("need, k 7", families_needed(full, o.count, 7, 1));
+    show_need("need, a byte short", families_needed(full, o.count - 1, 3, 1));
+    show("fullest, 65 parts and k 7", families_fullest_sheet(65, 7, full, sizeof full));
+    show("fullest, k 7", families_fullest_sheet(64, 7, full, 0));
+    o = families_fullest_sheet(64, 6, full, sizeof full);
+    show("fullest sheet of 64", o);
+    show_need("its need", families_needed(full, o.count, 6, 1));
+}
+
 int main(void)
 {
     printf("edition %d\n", FAMILIES_EDITION);
@@ -256,5 +283,6 @@ int main(void)
     strong(length);
     on_sheet(length);
     means();
+    needs();
     return 0;
 }

@@ -3,10 +3,10 @@
 use mathlib.Core.Path.{_≡_, sym, ap, ap₂, _∙_, subst}
 use mathlib.Core.Bool.{true}
 use mathlib.Core.List.{List, map, Memᴰ·of-map}
-use Prim.Native.Nat.{ℕ, _+_, _*_, _≤_}
+use Prim.Native.Nat.{ℕ, _*_, _≤_}
 use native.Mathlib.Omega.{arith}
 use lib.Dec.{leb}
-use lib.ListN.{length, getD, take, drop, length-map, length-drop}
+use lib.ListN.{length, take, drop, length-drop}
 use lib.Seq.{length-take-le}
 use Rattle.answers.specs.declared.Answer.{Answer}
 use Rattle.answers.specs.Verdict.{Verdict, accepted, refused, unless, written}
@@ -16,7 +16,6 @@ use Rattle.sets.specs.Lists.{_∈_, below}
 use Rattle.sets.specs.Sets.{full, sub}
 use Rattle.sets.proofs.ListLaws.{below-of}
 use Rattle.link_order.specs.Order.{sortLinks}
-use Rattle.link_order.proofs.Sorted.{sort-length}
 use Rattle.part_names.specs.Names.{eightAt, AllDiffer}
 use Rattle.part_names.proofs.Form.{names-again, names-distinct, eight-inside}
 use Rattle.sheet.specs.declared.Checked.{Checked}
@@ -25,13 +24,12 @@ use Rattle.sheet.specs.Network.{Network}
 use Rattle.sheet.specs.Answers.{holds, sheetSays}
 use Rattle.sheet.proofs.Lists.{listOf-length}
 use Rattle.sheet_reader.specs.Reading.{roomFor, ReadMeets}
-use Rattle.sheet_writer.specs.Writing.{partsOf, linksIn, checkWrite, WriteMeets}
+use Rattle.sheet_writer.specs.Writing.{WriteMeets}
 use Rattle.sheet_writer.specs.RoundTrip.{Bytes, Filled}
-use Rattle.sheet_writer.proofs.Again.{write-read}
 use Rattle.percolation.specs.Weights.{sum, weightSum}
-use Rattle.made.specs.Made.{Named, Proper, weighed, madeNetwork, madeSheet}
+use Rattle.made.specs.Made.{Named, Proper, weighed, weightAt, madeNetwork}
 use Rattle.made.proofs.Weighed.{weighed-proper}
-use Rattle.made.proofs.Sheets.{made-write, made-read, made-sum, made-held}
+use Rattle.made.proofs.Sheets.{made-meets, made-read, made-sum, made-wrote, made-again}
 use Rattle.dump_theory.specs.Rows.{together, pairsIn}
 use Rattle.dump_theory.specs.Model.{Counts}
 use Rattle.dump_theory.proofs.RowSums.{together-most, rows-sum}
@@ -69,6 +67,11 @@ module _ (d : List ℕ) (e : checkDump d ≡ accepted) where
         (λ q h. sym (eight-inside d 8 (8 * dumpParts d) (8 * q) (omega arith))) (dump-names d e);
   }
 
+  -- what is left to check
+  make-is : (room : ℕ) → checkMake d room ≡ unless (leb (length (sheetFrom d)) room) 16 0
+  unfolding checkMake
+  make-is room = then-go (checkDump d) (unless (leb (length (sheetFrom d)) room) 16 0) e
+
   module _ (b : Bytes d) where
     pub dump-proper : Proper (dumpParts d) (linksFrom d)
     unfolding linksFrom
@@ -88,24 +91,19 @@ module _ (d : List ℕ) (e : checkDump d ≡ accepted) where
 
     -- ---- what the call does
 
-    make-is : (room : ℕ) → checkMake d room ≡ checkWrite (madeNetwork (dumpNames d) (linksFrom d)) room
-    unfolding checkMake sheetFrom
-    make-is room =
-        then-go (checkDump d) (unless (leb (length (sheetFrom d)) room) 16 0) e
-        ∙ sym (made-write (dumpNames d) (linksFrom d) (dumpParts d) dump-named dump-proper room)
-
     -- from the counts of all rows, and the names as the code lends them
     pub make-meets : (C old out : List ℕ) (r : Answer) (p m : ℕ) → Counts (tripped d) C → p ≡ dumpParts d → m ≡ 8 * p
-        → WriteMeets (madeNetwork (take m (drop 8 d)) (weighed (λ q h. getD C (q * 64 + h) 0) p)) old r out → MakeMeets d old r out
-    unfolding sheetFrom linksFrom madeSheet
+        → WriteMeets (madeNetwork (take m (drop 8 d)) (weighed (weightAt C) p)) old r out → MakeMeets d old r out
+    unfolding sheetFrom linksFrom
     make-meets C old out r p m c f l w =
         let names : take m (drop 8 d) ≡ dumpNames d = ap (λ (k : ℕ). take k (drop 8 d)) (l ∙ ap (λ (k : ℕ). 8 * k) f) in
-        let same : weighed (λ q h. getD C (q * 64 + h) 0) p ≡ linksFrom d =
-        ap (weighed (λ q h. getD C (q * 64 + h) 0)) f ∙ counts-weighed (tripped d) C (dumpParts d) c (front-most d (dump-front d e)) in
+        let same : weighed (weightAt C) p ≡ linksFrom d =
+        ap (weighed (weightAt C)) f ∙ counts-weighed (tripped d) C (dumpParts d) c (front-most d (dump-front d e)) in
         let g = subst (λ (n : Network). WriteMeets n old r out) (ap₂ madeNetwork names same) w in
+        let h = made-meets (dumpNames d) (linksFrom d) (dumpParts d) dump-named dump-proper old out r g in
         record {
-          answer = g .answer ∙ ap (λ (v : Verdict). sayOf v (length (sheetFrom d))) (sym (make-is (length old)));
-          bytes = g .bytes ∙ ap (λ (v : Verdict). written v (sheetFrom d) old) (sym (make-is (length old)));
+          answer = h .0 ∙ ap (λ (v : Verdict). sayOf v (length (sheetFrom d))) (sym (make-is (length old)));
+          bytes = h .1 ∙ ap (λ (v : Verdict). written v (sheetFrom d) old) (sym (make-is (length old)));
         }
 
 -- a refused dump
@@ -118,9 +116,6 @@ make-refused d old n a r e s =
 -- ---- over the contracts: what the call wrote, the reader reads into lists with room
 
 module _ (d : List ℕ) (b : Bytes d) (out out′ : List ℕ) (w : Answer) (c : ℕ) (made : MakeMeets d out w out′) (said : says w ≡ counts c) where
-  abbrev net : Network
-  net = madeNetwork (dumpNames d) (linksFrom d)
-
   passed : checkMake d (length out) ≡ accepted
   passed = said-count (checkMake d (length out)) (length (sheetFrom d)) c (sym said ∙ made .answer) .0
 
@@ -128,27 +123,16 @@ module _ (d : List ℕ) (b : Bytes d) (out out′ : List ℕ) (w : Answer) (c : 
   unfolding checkMake
   ok = then-left (checkDump d) (unless (leb (length (sheetFrom d)) (length out)) 16 0) passed
 
-  wrote : WriteMeets net out w out′
-  unfolding sheetFrom madeSheet
-  wrote = record {
-    answer = made .answer ∙ ap (λ (v : Verdict). sayOf v (length (sheetFrom d))) (make-is d ok b (length out));
-    bytes = made .bytes ∙ ap (λ (v : Verdict). written v (sheetFrom d) out) (make-is d ok b (length out));
-  }
-
-  net-parts : partsOf net ≡ dumpParts d
-  unfolding madeNetwork
-  net-parts = omega (arith, dump-named d ok .long)
-
-  net-links : linksIn net ≡ length (linksFrom d)
-  unfolding madeNetwork
-  net-links = length-map (sortLinks (linksFrom d)) (λ l. l .low) ∙ sort-length (linksFrom d)
-
   pub dump-again : (old new : Network) (r : Checked) → ReadMeets (take c out′) old r new → roomFor (dumpParts d) (length (linksFrom d)) old ≡ true
       → (sheetSays r ≡ holds (dumpParts d) (length (linksFrom d))) × Filled (madeNetwork (dumpNames d) (linksFrom d)) old new
-  dump-again old new r read room =
-      let g = write-read net (made-held (dumpNames d) (linksFrom d) (dumpParts d) (dump-named d ok) (dump-proper d ok b)) out out′ w c wrote said old new r read
-      (ap₂ (λ (p m : ℕ). roomFor p m old) net-parts net-links ∙ room) in
-      (g .0 ∙ ap₂ holds net-parts net-links, g .1)
+  unfolding sheetFrom
+  dump-again =
+      let n = dump-named d ok in
+      let fine = dump-proper d ok b in
+      made-again (dumpNames d) (linksFrom d) (dumpParts d) n fine out out′ w c
+      (made-wrote (dumpNames d) (linksFrom d) (dumpParts d) n fine out out′ w (checkMake d (length out)) (make-is d ok (length out))
+      (made .answer) (made .bytes))
+      said
 
   -- no two names of a dump that a sheet is made from are equal
   pub dump-distinct : AllDiffer (dumpName d) (dumpParts d)

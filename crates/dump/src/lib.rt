@@ -1,15 +1,13 @@
 // Sheets made from the sensor dump: its check, its rows counted pair by pair, and the sheet of these counts written.
 ghost use mathlib.Core.Path.{_≡_};
 ghost use mathlib.Core.List.{[], map};
-ghost use Prim.Native.Nat.{ℕ, _*_, _^_, _+_, _<_, _≤_};
-ghost use lib.ListN.{length, getD};
+ghost use Prim.Native.Nat.{ℕ, _*_, _^_, _<_, _≤_};
+ghost use lib.ListN.{length};
 ghost use Rattle.answers.specs.Verdict.{inOrder};
 ghost use Rattle.part_names.specs.Names.{checkNames};
 ghost use Rattle.sheet.specs.Sheet.{linksOf};
 ghost use Rattle.answers.specs.Model.{verdict};
-ghost use Rattle.sheet_writer.specs.Writing.{WriteMeets};
 ghost use Rattle.percolation.specs.Weights.{sum, weightSum};
-ghost use Rattle.made.specs.Made.{weighed, madeNetwork};
 ghost use Rattle.dump_theory.specs.Rows.{pairsIn};
 ghost use Rattle.dump_theory.specs.Model.{Counts};
 ghost use Rattle.dump.specs.Dump.{
@@ -188,42 +186,6 @@ fn count_rows(d: &[u8], counts: &mut [u16])
     }
 }
 
-fn narrow(x: usize) -> u16
-    requires { ⌜ x ≤ 64 ⌝ }
-    ensures { λ r. ⌜ r ≡ x ⌝ }
-{
-    x as u16
-}
-
-// Writes the sheet of the names and the counts: a pair's count is its weight.
-fn write_counts(names: &[u8], p: usize, counts: &[u16], out: &mut [u8]) -> Answer
-    requires { ⌜ (p ≤ 64) × (length (now counts) ≡ 4096) ⌝ }
-    ensures { λ r. ⌜ WriteMeets (madeNetwork (now (names .entry)) (weighed (λ q h. getD (now (counts .entry)) (q * 64 + h) 0) p)) (now (out .entry)) r (now (out .exit)) ⌝ }
-{
-    let mut lower = [0u16; 4096];
-    let mut higher = [0u16; 4096];
-    let mut weights = [0u16; 4096];
-    let mut m = 0;
-    let mut i = 0;
-    while i < 4096 {
-        if made::is_pair(p, i) {
-            m = made::put_pair(
-                &mut lower,
-                &mut higher,
-                &mut weights,
-                m,
-                narrow(i / 64),
-                narrow(i % 64),
-                counts[i],
-            );
-            i += 1;
-        } else {
-            i += 1;
-        }
-    }
-    sheet_writer::write(names, &lower[..m], &higher[..m], &weights[..m], out)
-}
-
 // Writes the sheet made from a dump to the start of out: 17, 4, 5, 21, 18, then 16. The count is that of the bytes.
 pub fn sheet(dump: &[u8], out: &mut [u8]) -> Answer
     ensures { λ r. ⌜ MakeMeets (now (dump .entry)) (now (out .entry)) r (now (out .exit)) ⌝ }
@@ -235,5 +197,5 @@ pub fn sheet(dump: &[u8], out: &mut [u8]) -> Answer
     let mut counts = [0u16; 4096];
     count_rows(dump, &mut counts);
     let end = 8 + 8 * p;
-    write_counts(&dump[8..end], p, &counts, out)
+    made::write_weighed(&dump[8..end], p, &counts, out)
 }

@@ -1,22 +1,18 @@
 -- The counts of rows, row by row: what the table says, that no count outgrows its rows, and the links that it gives. Assumes nothing.
-use mathlib.Core.Bool.{true, not, _&&_, cond}
+use mathlib.Core.Bool.{true, _&&_, cond}
 use mathlib.Core.List.{List, [], _∷_, _++_}
 use mathlib.Core.Path.{_≡_, sym, ap, _∙_}
 use mathlib.Core.Logic.{_⊎_, inl, inr}
 use Prim.Native.Nat.{ℕ, _+_, _*_, _^_, _≤_, _<_}
 use native.Mathlib.Omega.{arith}
-use lib.Dec.{eqb}
 use lib.ListN.{length, getD, replicate, length-replicate, getD-replicate}
-use Rattle.sets.specs.Lists.{keep}
 use Rattle.sets.specs.Sets.{has, out, lowest}
 use Rattle.sets.proofs.Tests.{never, lt-or-le}
 use Rattle.sets.proofs.Laws.{has-lt}
 use Rattle.sets.proofs.Parts.{out-part, out-other}
 use Rattle.sets.proofs.Members.{lowest-has, lowest-least}
-use Rattle.sets.proofs.ListLaws.{map-on}
-use Rattle.percolation.specs.Links.{Link, link}
-use Rattle.made.specs.Made.{pairs, weighedOf, weighed}
-use Rattle.made.proofs.Pairs.{pairs-of}
+use Rattle.made.specs.Made.{weighed, weightAt}
+use Rattle.made.proofs.Weighed.{weighed-same}
 use Rattle.dump_theory.specs.Rows.{together}
 use Rattle.dump_theory.specs.Model.{Counts, RoomWith, Room, raised, countedWith, counted}
 use Rattle.dump_theory.proofs.RowSums.{together-none, together-more, together-most}
@@ -76,13 +72,5 @@ room-next n C s room fits q r h a b =
 
 -- ---- the links that it gives
 
--- weights that agree at each pair give the same links
-pub weighed-same : (f g : ℕ → ℕ → ℕ) (p : ℕ) → ((q r : ℕ) → q < r → r < p → f q r ≡ g q r) → weighed f p ≡ weighed g p
-unfolding weighed weighedOf
-weighed-same f g p h =
-    ap (keep (λ (l : Link). not (eqb (l .weight) 0)))
-    (map-on (λ (e : ℕ × ℕ). link (e .0) (e .1) (f (e .0) (e .1))) (λ (e : ℕ × ℕ). link (e .0) (e .1) (g (e .0) (e .1))) (pairs p)
-    (λ e m. let b = pairs-of p e m in ap (link (e .0) (e .1)) (h (e .0) (e .1) (b .0) (b .1))))
-
-pub counts-weighed : (R C : List ℕ) (p : ℕ) → Counts R C → p ≤ 64 → weighed (λ q r. getD C (q * 64 + r) 0) p ≡ weighed (together R) p
-counts-weighed R C p c h = weighed-same (λ q r. getD C (q * 64 + r) 0) (together R) p (λ q r a b. c .counts q r a (omega arith))
+pub counts-weighed : (R C : List ℕ) (p : ℕ) → Counts R C → p ≤ 64 → weighed (weightAt C) p ≡ weighed (together R) p
+counts-weighed R C p c h = weighed-same (weightAt C) (together R) p (λ q r a b. c .counts q r a (omega arith))

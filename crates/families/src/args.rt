@@ -4,7 +4,8 @@ use crate::typed::decimal;
 use crate::usage::wrong;
 use check::same;
 
-// A command with k and the threshold as it takes them; Meet has the place of `--` among the arguments, Mean names from argument 4 on.
+// A command with k and the threshold as it takes them; Fullest has the part count before k, Meet the place of `--` among the arguments, Mean names from
+// argument 4 on.
 pub enum Order {
     Help,
     Pack,
@@ -17,7 +18,8 @@ pub enum Order {
     Product(usize, usize),
     Tree(usize),
     Meet(usize, usize),
-    Slots(usize),
+    Slots(usize, u16),
+    Fullest(usize, usize),
     Live(usize),
     Nothing,
 }
@@ -210,13 +212,26 @@ fn meet(count: usize) -> Order {
 }
 
 fn slots(count: usize) -> Order {
-    if count != 4 {
-        return nothing(b"slots takes K and a sheet");
+    if count != 5 {
+        return nothing(b"slots takes K, T and a sheet");
     }
-    let Number::Is(k) = k_at(2) else {
+    match k_and_t(2, 3) {
+        KT::Are(k, t) => Order::Slots(k, t),
+        KT::Not => Order::Nothing,
+    }
+}
+
+fn fullest(count: usize) -> Order {
+    if count != 4 {
+        return nothing(b"fullest takes P and K: it writes a sheet");
+    }
+    let Number::Is(p) = number_at(2) else {
+        return nothing(b"P must be a number, 1 to 64");
+    };
+    let Number::Is(k) = k_at(3) else {
         return Order::Nothing;
     };
-    Order::Slots(k)
+    Order::Fullest(p, k)
 }
 
 fn live(count: usize) -> Order {
@@ -259,6 +274,9 @@ fn command(word: &[u8], count: usize) -> Order {
     }
     if same(word, b"slots") {
         return slots(count);
+    }
+    if same(word, b"fullest") {
+        return fullest(count);
     }
     if same(word, b"live") {
         return live(count);

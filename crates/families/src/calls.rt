@@ -4,7 +4,7 @@ use crate::meet;
 use answers::Answer;
 use meeting::Met;
 use report::SLOTS;
-use report::tell;
+use report::tell_run;
 use runs::Method;
 use sets::Set;
 
@@ -112,10 +112,20 @@ fn print(call: Call, s: &[u8], out: &[u8], n: usize) {
     }
 }
 
+// 15 says that the sequential run was refused too; of a tree or a meeting it counts the slots of all links.
+fn refuse(call: Call, s: &[u8], n: u8, place: usize) {
+    match call {
+        Call::Listing(k, t) => tell_run(s, n, place, k, t),
+        Call::ByMean(k, t) => tell_run(s, n, place, k, t),
+        Call::Tree(k) => tell_run(s, n, place, k, 0),
+        Call::Meet(k, _, _) => tell_run(s, n, place, k, 0),
+    }
+}
+
 fn answer(call: Call, s: &[u8], out: &mut [u8; SPACE]) {
     match result(call, s, out) {
         Answer::Count(n) => print(call, s, out, n),
-        Answer::Refused(n, place) => tell(s, n, place),
+        Answer::Refused(n, place) => refuse(call, s, n, place),
     }
 }
 

@@ -3,6 +3,7 @@ mod args;
 mod calls;
 mod cliques;
 mod from_dump;
+mod full_sheet;
 mod limits;
 mod means;
 mod meet;
@@ -27,7 +28,7 @@ fn answer(order: Order, s: &[u8]) {
         Order::Product(k, x) => strong::product(s, k, x),
         Order::Tree(k) => ask(Call::Tree(k), s),
         Order::Meet(k, middle) => meet::meet(s, k, middle),
-        Order::Slots(k) => report::slots(s, k),
+        Order::Slots(k, t) => report::slots(s, k, t),
         _ => {}
     }
 }
@@ -51,6 +52,7 @@ fn main() {
         Order::Help => usage::help(),
         Order::Pack => pack::pack(),
         Order::FromDump => from_dump::from_dump(),
+        Order::Fullest(p, k) => full_sheet::write(p, k),
         Order::Live(k) => live::run(k),
         Order::Nothing => {}
         _ => on_sheet(order),

@@ -13,7 +13,8 @@ fn lines(fd: i32) {
     io::write_all(fd, b"  families strong K weakest T SHEET\n");
     io::write_all(fd, b"  families tree K SHEET\n");
     io::write_all(fd, b"  families meet K NAME.. -- NAME.. SHEET\n");
-    io::write_all(fd, b"  families slots K SHEET\n");
+    io::write_all(fd, b"  families slots K T SHEET\n");
+    io::write_all(fd, b"  families fullest P K > SHEET\n");
     io::write_all(fd, b"  families live K\n");
 }
 

@@ -18,12 +18,15 @@ ghost use Rattle.runs.specs.OnSheet.{slotsFor, slotsOf, maximalsFor, ListingMee
 ghost use Rattle.sequential.specs.Steps.{StartMeets, InsertMeets, BackMeets, ListingNowMeets};
 ghost use Rattle.meeting.specs.Answers.{meetSays, MeetingMeets};
 ghost use Rattle.mean.specs.Answers.{meanSays, MeanMeets};
+ghost use Rattle.needs.specs.Needs.{needSays, NeedsMeets};
+ghost use Rattle.fullest.specs.Fullest.{FullMeets};
 ghost use Rattle.meeting_maximal.specs.Fits.{levelsFit};
 ghost use Rattle.merge_tree.specs.OnSheet.{TreeMeets};
 ghost use Rattle.products.specs.declared.Measure.the-variants.{Weakest, Product};
 ghost use Rattle.strength.specs.OnSheet.{cliqueList, StrengthMeets};
-ghost use Rattle.outcomes.specs.Outcomes.{outcome, shown, sheetShown, meetShown, meanShown, Shows, ShowsMeeting, ShowsMean, ShowsStep};
+ghost use Rattle.outcomes.specs.Outcomes.{outcome, shown, sheetShown, meetShown, meanShown, needShown, Shows, ShowsMeeting, ShowsMean, ShowsNeed, ShowsStep};
 use outcomes::Mean;
+use outcomes::Need;
 use outcomes::Outcome;
 use outcomes::Started;
 use outcomes::counted;
@@ -31,6 +34,7 @@ use outcomes::of_answer;
 use outcomes::of_mean;
 use outcomes::of_meeting;
 use outcomes::of_name;
+use outcomes::of_need;
 use outcomes::of_sheet;
 use outcomes::of_step;
 use products::Measure;
@@ -305,6 +309,22 @@ pub extern "C" fn families_family_mean(
 {
     let set = sets::from_word(clique);
     of_mean(mean::of_family(sheet, k, t, set, sets, entries, smallest, unions))
+}
+
+// needs::of_sheet: count is 0.
+#[no_mangle]
+pub extern "C" fn families_needed(sheet: &[u8], k: usize, t: u16) -> Need
+    ensures { λ r. ⌜ ShowsNeed (λ x. NeedsMeets (now (sheet .entry)) k t x) r ⌝ }
+{
+    of_need(needs::of_sheet(sheet, k, t))
+}
+
+// fullest::sheet: count is the bytes.
+#[no_mangle]
+pub extern "C" fn families_fullest_sheet(p: usize, k: usize, out: &mut [u8]) -> Outcome
+    ensures { λ r. ⌜ Shows (λ a. FullMeets p k (now (out .entry)) a (now (out .exit))) r ⌝ }
+{
+    of_answer(fullest::sheet(p, k, out))
 }
 
 // meeting_sequential::meet: count is the weight, 0 for never.

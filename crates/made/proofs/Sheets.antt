@@ -1,5 +1,5 @@
--- A made sheet: the writer accepts its network, the reader accepts it and finds the links sorted, the part count and the names; how long it is, and what
--- its links weigh. Assumes nothing.
+-- A made sheet: the writer accepts its network, the reader accepts it and finds the links sorted, the part count and the names; how long it is, what its
+-- links weigh; and what a call wrote of it, the reader reads. Assumes nothing.
 use mathlib.Core.Path.{_≡_, refl, sym, ap, ap₂, _∙_}
 use mathlib.Core.Logic.{_⊎_, inl, inr}
 use mathlib.Core.Bool.{Bool, true, false, _&&_}
@@ -11,7 +11,7 @@ use lib.ListN.{length, getD, take, drop, length-map, List·getD-eq-default}
 use lib.Seq.{ext-getD, getD-take, getD-drop}
 use borrow.Author.Tests.{eqb-true, eq-eqb, le-leb}
 use Rattle.answers.specs.Verdict.{Verdict, accepted, unless, written}
-use Rattle.answers.specs.Answers.{says, sayOf}
+use Rattle.answers.specs.Answers.{counts, says, sayOf}
 use Rattle.answers.specs.declared.Answer.{Answer}
 use Rattle.answers.proofs.Laws.{then-go}
 use Rattle.sets.specs.Lists.{_∈_}
@@ -26,14 +26,18 @@ use Rattle.link_order.proofs.Sorted.{sort-legal, sort-length, sort-of}
 use Rattle.part_names.specs.Names.{visible, spaces, visibleThenSpaces, isName, eightAt, checkNames}
 use Rattle.part_names.proofs.Form.{visible-range, each-name}
 use Rattle.sheet.specs.Sheet.{parts, headLength, sheetLength, listOf, linksOf, checkSheet}
+use Rattle.sheet.specs.declared.Checked.{Checked}
 use Rattle.sheet.specs.Network.{Network}
+use Rattle.sheet.specs.Answers.{holds, sheetSays}
 use Rattle.sheet.proofs.Lists.{listOf-length, listOf-at}
 use Rattle.sheet_writer.specs.Writing.{partsOf, linksIn, linkIn, sheetOf, hasShape, checkNetwork, checkWrite, WriteMeets}
-use Rattle.sheet_writer.specs.RoundTrip.{Held}
+use Rattle.sheet_reader.specs.Reading.{roomFor, ReadMeets}
+use Rattle.sheet_writer.specs.RoundTrip.{Held, Filled}
 use Rattle.sheet_writer.proofs.Shape.{sheet-size}
 use Rattle.sheet_writer.proofs.Sound.{network-passes}
 use Rattle.sheet_writer.proofs.RoundTrip.{write-twin, network-again}
 use Rattle.sheet_writer.proofs.Twins.{twin-links}
+use Rattle.sheet_writer.proofs.Again.{write-read}
 use Rattle.percolation.specs.Weights.{weightSum}
 use Rattle.made.specs.Made.{Proper, Named, madeNetwork, madeSheet}
 use Rattle.made.proofs.Sums.{sort-sum}
@@ -204,3 +208,25 @@ module _ (names : List ℕ) (K : List Link) (p : ℕ) (n : Named names p) (ok : 
   -- what its links weigh
   pub made-sum : weightSum (linksOf (madeSheet names K)) ≡ weightSum K
   made-sum = ap weightSum made-linksOf ∙ sort-sum K
+
+  -- ---- over the contracts: what a call wrote of it, the reader reads
+
+  -- a call whose own checks let it pass wrote it as the writer must
+  pub made-wrote : (old out : List ℕ) (a : Answer) (v : Verdict) → v ≡ unless (leb (length (madeSheet names K)) (length old)) 16 0
+      → says a ≡ sayOf v (length (madeSheet names K)) → out ≡ written v (madeSheet names K) old → WriteMeets (madeNetwork names K) old a out
+  unfolding madeSheet
+  made-wrote old out a v e told bytes =
+      let same : v ≡ checkWrite (net names K) (length old) = e ∙ sym (made-write (length old)) in
+      record {
+        answer = told ∙ ap (λ (x : Verdict). sayOf x (length (madeSheet names K))) same;
+        bytes = bytes ∙ ap (λ (x : Verdict). written x (madeSheet names K) old) same;
+      }
+
+  -- into lists with room it is read again: p parts, the names, and the links sorted
+  pub made-again : (old out : List ℕ) (a : Answer) (c : ℕ) → WriteMeets (madeNetwork names K) old a out → says a ≡ counts c
+      → (before after : Network) (r : Checked) → ReadMeets (take c out) before r after → roomFor p (length K) before ≡ true
+      → (sheetSays r ≡ holds p (length K)) × Filled (madeNetwork names K) before after
+  made-again old out a c wrote said before after r read space =
+      let g = write-read (net names K) made-held old out a c wrote said before after r read
+      (ap₂ (λ (n m : ℕ). roomFor n m before) count (number names K) ∙ space) in
+      (g .0 ∙ ap₂ holds count (number names K), g .1)

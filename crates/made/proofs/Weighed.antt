@@ -8,11 +8,11 @@ use Prim.Native.Nat.{ℕ, suc, _-_, _*_, _/_, _≤_, _<_}
 use native.Mathlib.Omega.{arith}
 use native.Mathlib.Nat.{mul-le-mul}
 use lib.Dec.{eqb}
-use lib.ListN.{length, length-map}
-use borrow.Author.Tests.{eqb-true, eqb-false, eq-eqb, ne-eqb, not-true}
+use lib.ListN.{length}
+use borrow.Author.Tests.{eqb-true, eqb-false, ne-eqb, not-true}
 use Rattle.sets.specs.Lists.{_∈_, all, keep, eachTwo}
-use Rattle.sets.proofs.Tests.{split, never, not-so, and-intro, and-left, and-right, or-left, or-cases, false-not}
-use Rattle.sets.proofs.ListLaws.{Holds, Distinct, all-at, all-of, keep-yes, keep-no, keep-at, keep-of, keep-append, distinct-le, map-append}
+use Rattle.sets.proofs.Tests.{split, not-so, and-intro, and-left, and-right, or-cases, false-not}
+use Rattle.sets.proofs.ListLaws.{Distinct, all-at, keep-yes, keep-no, keep-at, keep-of, keep-append, map-append, map-on}
 use Rattle.percolation.specs.Links.{Link, link, joins}
 use Rattle.percolation.proofs.Accepted.{pairs-few}
 use Rattle.made.specs.Made.{pairs, ends, weighedOf, weighed, Picked, picksNone, leavesOut, picks, GoodLink, Proper}
@@ -98,6 +98,14 @@ module _ (f : ℕ → ℕ → ℕ) where
           let ne = eqb-false (f (e .0) (e .1)) 0 z in
           let w : 1 ≤ f (e .0) (e .1) = omega arith in
           subst (Picked (e ∷ P)) (sym (weighed-take e P z)) (picks (f (e .0) (e .1)) w (most (e .0) (e .1)) r)
+
+-- weights that agree at each pair give the same links
+pub weighed-same : (f g : ℕ → ℕ → ℕ) (p : ℕ) → ((q r : ℕ) → q < r → r < p → f q r ≡ g q r) → weighed f p ≡ weighed g p
+unfolding weighed weighedOf
+weighed-same f g p h =
+    ap (keep (λ (l : Link). not (eqb (l .weight) 0)))
+    (map-on (λ (e : ℕ × ℕ). link (e .0) (e .1) (f (e .0) (e .1))) (λ (e : ℕ × ℕ). link (e .0) (e .1) (g (e .0) (e .1))) (pairs p)
+    (λ e m. let b = pairs-of p e m in ap (link (e .0) (e .1)) (h (e .0) (e .1) (b .0) (b .1))))
 
 -- ---- links picked from pairs
 

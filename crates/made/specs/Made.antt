@@ -2,9 +2,9 @@
 use mathlib.Core.Path.{_≡_}
 use mathlib.Core.Bool.{Bool, true, not, _&&_, _||_}
 use mathlib.Core.List.{List, [], _∷_, map, flatten}
-use Prim.Native.Nat.{ℕ, _*_, _≤_, _<_}
+use Prim.Native.Nat.{ℕ, _+_, _*_, _≤_, _<_}
 use lib.Dec.{eqb, ltb}
-use lib.ListN.{length}
+use lib.ListN.{length, getD}
 use Rattle.answers.specs.Verdict.{accepted}
 use Rattle.sets.specs.Lists.{_∈_, keep, eachTwo, below}
 use Rattle.percolation.specs.Links.{Link, link, joins}
@@ -41,9 +41,14 @@ unfoldable pub weighedOf : (ℕ → ℕ → ℕ) → List (ℕ × ℕ) → List 
 unfolding keep
 weighedOf f P = keep (λ l. not (eqb (l .weight) 0)) (map (λ e. link (e .0) (e .1) (f (e .0) (e .1))) P)
 
+-- those of all pairs of parts below p
 unfoldable pub weighed : (ℕ → ℕ → ℕ) → ℕ → List Link
 unfolding weighedOf pairs
 weighed f p = weighedOf f (pairs p)
+
+-- the weight of the pair q, h in a table: it stands at q * 64 + h
+abbrev pub weightAt : List ℕ → ℕ → ℕ → ℕ
+weightAt C q h = getD C (q * 64 + h) 0
 
 -- K are links of some of the pairs P, in their order, with weights 1 to 65,535
 pub data Picked : List (ℕ × ℕ) → List Link → Type 0 where

@@ -11,9 +11,13 @@ use Rattle.meeting.specs.declared.Met.{Met}
 use Rattle.mean.specs.Answers.{MeanSaid, gives, meanSays}
 use Rattle.mean.specs.Answers.{refuses as refusesMean}
 use Rattle.mean.specs.declared.FamilyMean.{FamilyMean}
+use Rattle.needs.specs.Needs.{NeedSaid, needSays}
+use Rattle.needs.specs.Needs.{gives as givesNeed, refuses as refusesNeed}
+use Rattle.needs.specs.declared.Needed.{Needed}
 use Rattle.sequential.specs.declared.Stepped.{Stepped}
 use Rattle.outcomes.specs.declared.Outcome.{Outcome}
 use Rattle.outcomes.specs.declared.Mean.{Mean}
+use Rattle.outcomes.specs.declared.Need.{Need}
 use Rattle.outcomes.specs.declared.Started.{Started}
 
 abbrev pub outcome : ℕ → ℕ → ℕ → ℕ → Outcome
@@ -43,6 +47,14 @@ unfoldable pub meanShown : MeanSaid → Mean
 meanShown (gives m) = meanOutcome (outcome 0 0 (m .links) 0) (m .sum) (m .quotient) (m .remainder)
 meanShown (refusesMean n a) = meanOutcome (outcome n a 0 0) 0 0 0
 
+abbrev pub needOutcome : Outcome → ℕ → ℕ → ℕ → Need
+needOutcome o c j n = record { outcome = o; cliques = c; joins = j; slots = n }
+
+-- the needs of a run: count is 0
+unfoldable pub needShown : NeedSaid → Need
+needShown (givesNeed x) = needOutcome (outcome 0 0 0 0) (x .cliques) (x .joins) (x .slots)
+needShown (refusesNeed n a) = needOutcome (outcome n a 0 0) 0 0 0
+
 -- o shows an answer of the call behind it, of which P holds
 pub record ShowsAs {A O : Type 0} (show : A → O) (P : A → Type 0) (o : O) : Type 0 where
   pub answer : A
@@ -57,6 +69,9 @@ ShowsMeeting P o = ShowsAs (λ m. meetShown (meetSays m)) P o
 
 abbrev pub ShowsMean : (FamilyMean → Type 0) → Mean → Type 0
 ShowsMean P o = ShowsAs (λ m. meanShown (meanSays m)) P o
+
+abbrev pub ShowsNeed : (Needed → Type 0) → Need → Type 0
+ShowsNeed P o = ShowsAs (λ x. needShown (needSays x)) P o
 
 -- o shows what a step gave back, of which P holds
 pub record ShowsStep (P : Stepped → Type 0) (o : Started) : Type 0 where

@@ -4,10 +4,12 @@ ghost use Rattle.answers.specs.Answers.{says};
 ghost use Rattle.sheet.specs.Answers.{sheetSays, foundSays};
 ghost use Rattle.meeting.specs.Answers.{meetSays};
 ghost use Rattle.mean.specs.Answers.{meanSays};
-ghost use Rattle.outcomes.specs.Outcomes.{outcome, shown, sheetShown, meetShown, meanOutcome, meanShown};
+ghost use Rattle.needs.specs.Needs.{needSays};
+ghost use Rattle.outcomes.specs.Outcomes.{outcome, shown, sheetShown, meetShown, meanOutcome, meanShown, needOutcome, needShown};
 use answers::Answer;
 use mean::FamilyMean;
 use meeting::Met;
+use needs::Needed;
 use sequential::Stepped;
 use sheet::Checked;
 use sheet::Found;
@@ -29,6 +31,15 @@ pub struct Mean {
     pub sum: u64,
     pub quotient: u64,
     pub remainder: u64,
+}
+
+// What the needs of a run give back: the numbers of k-cliques, joins and slots; zeros on a refusal.
+#[repr(C)]
+pub struct Need {
+    pub outcome: Outcome,
+    pub cliques: u64,
+    pub joins: u64,
+    pub slots: u64,
 }
 
 // What a step gives back: its outcome, and the state for the next one.
@@ -119,6 +130,26 @@ pub fn of_mean(family: FamilyMean) -> Mean
             remainder,
         ),
         FamilyMean::Refused(n, a) => mean_of(refused(n, a), 0, 0, 0),
+    }
+}
+
+fn need_of(outcome: Outcome, cliques: usize, joins: usize, slots: usize) -> Need
+    ensures { λ r. ⌜ r ≡ needOutcome outcome cliques joins slots ⌝ }
+{
+    Need {
+        outcome,
+        cliques: cliques as u64,
+        joins: joins as u64,
+        slots: slots as u64,
+    }
+}
+
+pub fn of_need(needed: Needed) -> Need
+    ensures { λ r. ⌜ r ≡ needShown (needSays needed) ⌝ }
+{
+    match needed {
+        Needed::Counts(cliques, joins, slots) => need_of(counted(0, 0), cliques, joins, slots),
+        Needed::Refused(n, a) => need_of(refused(n, a), 0, 0, 0),
     }
 }
 

@@ -22,6 +22,7 @@ pub use means::by_mean;
 pub use means::mean;
 pub use names::find;
 pub use refusal::tell;
+pub use refusal::tell_run;
 pub use sheet_text::link_words;
 pub use sheet_text::show;
 pub use slot_counts::slots;

@@ -1,4 +1,5 @@
 pub mod Cliques
+pub mod Few
 pub mod NewCliques
 pub mod Peeled
 pub mod RowLinks

@@ -35,6 +35,15 @@ pub struct MeanWeight {
     pub remainder: u64,
 }
 
+/// What the sequential run needs: its k-cliques, k joins for each, and the
+/// slots that it will use.
+#[derive(Clone, Copy, Debug, PartialEq, Eq)]
+pub struct Needs {
+    pub cliques: u64,
+    pub joins: u64,
+    pub slots: u64,
+}
+
 /// A line of the merge tree. Lines are numbered from 1 in their order. Weight
 /// and smallest clique are those of its start; its union is that of its class
 /// at the last level before it goes into another line, or at the last of all.
@@ -167,6 +176,18 @@ pub fn mean(
         links: mean.outcome.accepted()?.count,
         quotient: mean.quotient,
         remainder: mean.remainder,
+    })
+}
+
+/// What the sequential run needs of a sheet at t, told before it. With as many
+/// slots it is accepted, with fewer it is refused 15.
+pub fn needed(sheet: &[u8], k: usize, t: u16) -> Result<Needs, Refused> {
+    let need = lent::needed(sheet, k, t);
+    need.outcome.accepted()?;
+    Ok(Needs {
+        cliques: need.cliques,
+        joins: need.joins,
+        slots: need.slots,
     })
 }
 

@@ -49,11 +49,21 @@ pub struct Mean {
     pub remainder: u64,
 }
 
+/// What a run needs: the numbers of k-cliques, of joins and of slots.
+#[repr(C)]
+#[derive(Clone, Copy, Debug, PartialEq, Eq)]
+pub struct Need {
+    pub outcome: Outcome,
+    pub cliques: u64,
+    pub joins: u64,
+    pub slots: u64,
+}
+
 // A field more or less on one side would shift every argument after it.
 #[cfg(target_pointer_width = "64")]
 const _: () = {
     assert!(size_of::<Outcome>() == 32 && size_of::<State>() == 552 && size_of::<Started>() == 584);
-    assert!(size_of::<Mean>() == 56);
+    assert!(size_of::<Mean>() == 56 && size_of::<Need>() == 56);
 };
 
 extern "C" {
@@ -279,6 +289,10 @@ extern "C" {
         unions: *mut u64,
         unions_length: usize,
     ) -> Mean;
+
+    pub fn families_needed(sheet: *const u8, sheet_length: usize, k: usize, t: u16) -> Need;
+
+    pub fn families_fullest_sheet(p: usize, k: usize, out: *mut u8, out_length: usize) -> Outcome;
 
     pub fn families_tree(
         sheet: *const u8,

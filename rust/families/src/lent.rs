@@ -9,7 +9,7 @@ use crate::ffi;
 use crate::refused::Refused;
 use crate::tables::{CliquesMut, TablesMut, TablesRef};
 
-pub use crate::ffi::{Mean, Outcome, Started, State};
+pub use crate::ffi::{Mean, Need, Outcome, Started, State};
 
 /// Which of the two runs a call goes through.
 #[derive(Clone, Copy, Debug, PartialEq, Eq)]
@@ -319,6 +319,17 @@ pub fn family_mean(sheet: &[u8], k: usize, t: u16, clique: u64, tables: TablesMu
             tables.unions.len(),
         )
     }
+}
+
+/// What the sequential run needs of a sheet at t: k-cliques, joins, slots.
+pub fn needed(sheet: &[u8], k: usize, t: u16) -> Need {
+    unsafe { ffi::families_needed(sheet.as_ptr(), sheet.len(), k, t) }
+}
+
+/// Writes the sheet of p parts with all pairs linked at weight 1; `count` is
+/// its length in bytes.
+pub fn fullest_sheet(p: usize, k: usize, out: &mut [u8]) -> Outcome {
+    unsafe { ffi::families_fullest_sheet(p, k, out.as_mut_ptr(), out.len()) }
 }
 
 /// The merge tree; `count` is the number of lines.

@@ -15,13 +15,13 @@ mod sheet;
 mod tables;
 
 pub use communities::{
-    decode_listing, decode_tree, listing, mean, meeting, strong_listing, tree, Community, Line,
-    MeanWeight, Meeting,
+    decode_listing, decode_tree, listing, mean, meeting, needed, strong_listing, tree, Community,
+    Line, MeanWeight, Meeting, Needs,
 };
 pub use lent::{Measure, Run};
 pub use refused::Refused;
 pub use sequential::Sequential;
-pub use sheet::{from_dump, name, read, write, Network};
+pub use sheet::{from_dump, fullest, name, read, write, Network};
 pub use tables::{
     Cliques, CliquesMut, Space, Tables, TablesMut, TablesRef, JOURNAL_ENTRIES, MOST_SLOTS,
 };

@@ -1,4 +1,5 @@
-//! Link sheets: reading, writing, names; sheets made from dumps.
+//! Link sheets: reading, writing, names; sheets made from dumps, and the
+//! fullest one.
 
 use crate::lent;
 use crate::refused::Refused;
@@ -67,6 +68,16 @@ pub fn from_dump(dump: &[u8]) -> Result<Vec<u8>, Refused> {
     // A link for each pair at the most.
     let mut sheet = vec![0; 8 + 8 * parts + 2 * parts * parts.saturating_sub(1)];
     let outcome = lent::dump_sheet(dump, &mut sheet).accepted()?;
+    sheet.truncate(outcome.count);
+    Ok(sheet)
+}
+
+/// The sheet of p parts with all pairs linked at weight 1. For k no sheet of p
+/// parts needs more slots at any threshold than this one at 1.
+pub fn fullest(p: usize, k: usize) -> Result<Vec<u8>, Refused> {
+    // That of 64 parts: 8 bytes for each, and 4 for each of 2,016 links.
+    let mut sheet = vec![0; 8_584];
+    let outcome = lent::fullest_sheet(p, k, &mut sheet).accepted()?;
     sheet.truncate(outcome.count);
     Ok(sheet)
 }

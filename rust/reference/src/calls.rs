@@ -132,6 +132,26 @@ impl ExpectedMean {
     }
 }
 
+/// The sheet of p parts with all pairs linked at weight 1, or a refusal.
+pub fn fullest_sheet(p: usize, k: usize, out: usize) -> Expected {
+    let checked = demand((1..=64).contains(&p), 4, 0).and_then(|()| demand(good_k(k), 10, 0));
+    if let Err(refusal) = checked {
+        return Expected::refused(refusal, Left::Untouched);
+    }
+    let links = p * (p - 1) / 2;
+    let mut bytes = vec![b'P', b'L', b'S', 0, 1, p as u8];
+    bytes.extend((links as u16).to_be_bytes());
+    for part in 0..p {
+        bytes.extend(format!("P{part:02}     ").bytes());
+    }
+    for lower in 0..p {
+        for higher in lower + 1..p {
+            bytes.extend([lower as u8, higher as u8, 0, 1]);
+        }
+    }
+    Expected::written(bytes.len(), bytes, out, Left::Untouched)
+}
+
 /// C(n, r) for n 0 to 64 and r 0 to 6, and 0 outside: by Pascal's rule, row
 /// by row, so that no product or division is shared with the formula.
 pub fn subset_count(n: usize, r: usize) -> usize {
@@ -411,6 +431,13 @@ impl JudgeK<'_> {
         let network = self.judge.network()?;
         demand(good_k(self.k), 10, 0)?;
         Ok(self.facts.get_or_init(|| Facts::new(network, self.k)))
+    }
+
+    /// The k-cliques at t, the joins and the slots of the sequential run.
+    pub fn needed(&self, t: u16) -> Result<[u64; 3], Refusal> {
+        let facts = self.facts()?;
+        let cliques = facts.cliques_at(t).len() as u64;
+        Ok([cliques, self.k as u64 * cliques, facts.slots(t) as u64])
     }
 
     /// The checks up to 11.

@@ -135,6 +135,7 @@ impl Trials {
             }
             Err(_) => self.random.number() as u16,
         };
+        self.needed(&judge_k, t);
         for run in RUNS {
             let lengths = self.lengths(&judge_k, run, t);
             let out = self.listing_output(&judge_k, t);

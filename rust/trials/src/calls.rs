@@ -2,6 +2,7 @@
 
 use families::lent;
 use reference::calls::{self, Expected, ExpectedMean, Judge, JudgeK, Left, Outcome, Run};
+use reference::sheets::Refusal;
 
 use crate::guarded::{Guarded, GuardedTables};
 use crate::trials::{hex, Trials};
@@ -244,6 +245,53 @@ impl Trials {
         let found = lent::family_mean(sheet.get(), call.k, call.t, call.clique, tables.lend_mut());
         let verdict = check_mean(found, expected, &tables).and_then(|()| sheet.check("sheet", &[]));
         self.expect(verdict, || format!("{call:?}, sheet {}", hex(sheet.get())));
+    }
+
+    /// What the sequential run needs at t.
+    pub fn needed(&mut self, judge: &JudgeK, t: u16) {
+        self.needed_as(judge.judge().sheet(), judge.k(), t, judge.needed(t));
+    }
+
+    /// What the sequential run needs, where that is known.
+    pub fn needed_as(
+        &mut self,
+        sheet: &[u8],
+        k: usize,
+        t: u16,
+        expected: Result<[u64; 3], Refusal>,
+    ) {
+        let sheet = Guarded::holding(&mut self.random, sheet);
+        let found = lent::needed(sheet.get(), k, t);
+        let numbers = [found.cliques, found.joins, found.slots];
+        let (outcome, told) = match expected {
+            Ok(told) => (Outcome::default(), told),
+            Err(refusal) => (refusal.into(), [0; 3]),
+        };
+        let verdict = check_outcome(found.outcome, outcome)
+            .and_then(|()| match numbers == told {
+                true => Ok(()),
+                false => Err(format!("expected {told:?}\nfound    {numbers:?}")),
+            })
+            .and_then(|()| sheet.check("sheet", &[]));
+        self.expect(verdict, || {
+            format!("needed, k {k}, t {t}, sheet {}", hex(sheet.get()))
+        });
+    }
+
+    /// The fullest sheet, with an output of this length.
+    pub fn fullest_sheet(&mut self, p: usize, k: usize, out: usize) {
+        self.fullest_sheet_as(p, k, out, &calls::fullest_sheet(p, k, out));
+    }
+
+    /// The fullest sheet, whose bytes are known.
+    pub fn fullest_sheet_as(&mut self, p: usize, k: usize, out: usize, expected: &Expected) {
+        let mut output = Guarded::junk(&mut self.random, out);
+        let found = lent::fullest_sheet(p, k, output.get_mut());
+        let verdict = check_outcome(found, expected.outcome)
+            .and_then(|()| output.check("output", &expected.output));
+        self.expect(verdict, || {
+            format!("fullest sheet, p {p}, k {k}, output {out}")
+        });
     }
 
     /// A merge tree, with tables and an output of these lengths.

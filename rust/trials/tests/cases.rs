@@ -217,6 +217,16 @@ fn merge_tree(trials: &mut Trials, case: &Value) {
     trials.tree(&judge, tables, out);
 }
 
+fn slots_needed(trials: &mut Trials, case: &Value) {
+    let given = case.field("in");
+    let sheet = bytes(given.field("sheet"));
+    let (k, t) = (number(given.field("k")), number(given.field("t")) as u16);
+    let expected = answer(case.field("out"))
+        .map(|ok| ["cliques", "joins", "slots"].map(|name| ok.field(name).number()));
+    assert_eq!(Judge::new(&sheet).with(k).needed(t), expected, "{case:?}");
+    trials.needed_as(&sheet, k, t, expected);
+}
+
 /// A start on both sides, which must agree.
 fn start(trials: &mut Trials, given: &Value) -> Result<Inserts, Refusal> {
     let [p, k, journal] = ["p", "k", "journal"].map(|name| number(given.field(name)));
@@ -350,6 +360,13 @@ fn tried(trials: &mut Trials, case: &Value) {
         "mean_weight" => mean_weight(trials, case),
         "listing_strength" => listing_strength(trials, case),
         "merge_tree" => merge_tree(trials, case),
+        "slots_needed" => slots_needed(trials, case),
+        "fullest_sheet" => {
+            let [p, k, length] = ["p", "k", "out_len"].map(|name| number(given.field(name)));
+            let expected = expected(out, Left::Untouched);
+            assert_eq!(calls::fullest_sheet(p, k, length), expected, "{case:?}");
+            trials.fullest_sheet_as(p, k, length, &expected);
+        }
         "steps" => steps(trials, case),
         "state_check" => state_check(trials, case),
         call => panic!("no trial for the call {call}"),

@@ -1,8 +1,9 @@
 //! The requirement's small sheets, by the calls that make their own space.
 
 use families::{
-    decode_listing, decode_tree, listing, meeting, name, read, slot_bound, subset_count, tree,
-    write, Community, Line, Meeting, Network, Refused, Run, Sequential, Space,
+    decode_listing, decode_tree, fullest, listing, meeting, name, needed, read, slot_bound,
+    subset_count, tree, write, Community, Line, Meeting, Needs, Network, Refused, Run, Sequential,
+    Space,
 };
 use trials::Trials;
 
@@ -197,6 +198,31 @@ fn bounds_and_words() {
     sentences.dedup();
     assert_eq!(sentences.len(), 23);
     assert!(!sentences.iter().any(|s| s.contains("without a meaning")));
+}
+
+#[test]
+fn needs() {
+    let full = fullest(5, 3).expect("a sheet");
+    let need = Needs {
+        cliques: 10,
+        joins: 30,
+        slots: 10,
+    };
+    assert_eq!(needed(&full, 3, 1), Ok(need));
+    let all = vec![Community {
+        smallest: 7,
+        union: 31,
+    }];
+    let listed = |slots| listing(Run::Sequential, &full, 3, 1, Space::Slots(slots));
+    assert_eq!(listed(10), Ok(all));
+    let refused = |number| Refused { number, place: 0 };
+    assert_eq!(listed(9), Err(refused(15)));
+    assert_eq!(needed(&full, 7, 1), Err(refused(10)));
+    assert_eq!(needed(b"", 3, 1), Err(refused(1)));
+    assert_eq!(fullest(65, 7), Err(refused(4)));
+    assert_eq!(fullest(64, 7), Err(refused(10)));
+    let longest = fullest(64, 6).expect("a sheet");
+    assert_eq!(longest.len(), 8_584);
 }
 
 #[test]

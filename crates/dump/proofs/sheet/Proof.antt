@@ -41,34 +41,39 @@ mul-end c = search needs
 add-end : tie.Need-add-end
 add-end c = search needs
 
-sub-write-counts : tie.Need-sub-write-counts
-sub-write-counts c = search needs
+sub-write-weighed : tie.Need-sub-write-weighed
+sub-write-weighed c = search needs
 
-part-write-counts-start : tie.Need-part-write-counts-start
-part-write-counts-start c = search needs
+part-write-weighed-start : tie.Need-part-write-weighed-start
+part-write-weighed-start c = search needs
 
-part-write-counts-end : tie.Need-part-write-counts-end
-part-write-counts-end c =
+part-write-weighed-end : tie.Need-part-write-weighed-end
+part-write-weighed-end c =
     let e = sym (c .before .before .before .before .before .before .check .ensures) ∙ ap verdict (c .before .before .before .before .enum-told .given .1) in
     omega (arith, front-length _ (dump-front _ e), c .before .before .before .part-count .ensures .0)
 
-slice-aggregate-write-counts : tie.Need-slice-aggregate-write-counts
-slice-aggregate-write-counts c = search needs
+slice-aggregate-write-weighed : tie.Need-slice-aggregate-write-weighed
+slice-aggregate-write-weighed c = search needs
 
-write-counts-requires : tie.Need-write-counts-requires
-write-counts-requires c κs =
-    let e = sym (c .before .before .before .before .before .before .before .before .before .check .ensures) ∙ ap verdict (c .before .before .before .before .before .before .before .enum-told .given .1) in
-    (omega (arith, front-most _ (dump-front _ e), c .before .before .before .before .before .before .part-count .ensures .0), c .before .before .before .before .count-rows .ensures .places)
+write-weighed-requires : tie.Need-write-weighed-requires
+write-weighed-requires c κs =
+    let r = c .before .before .before .before in
+    let e = sym (r .before .before .before .before .before .check .ensures) ∙ ap verdict (r .before .before .before .enum-told .given .1) in
+    (omega (arith, front-most _ (dump-front _ e), r .before .before .part-count .ensures .0), r .count-rows .ensures .places)
 
 same-length : tie.Need-same-length
 same-length c = search needs
 
 returns-2 : tie.Need-returns-2
 returns-2 c =
-    let a = c .before .before .before .before .before .before .before .before .before .before .before .before .before .before .before .args in
-    let e = sym (c .before .before .before .before .before .before .before .before .before .before .before .before .check .ensures) ∙ ap verdict (c .before .before .before .before .before .before .before .before .before .before .enum-told .given .1) in
-    let small : Bytes (a .dump .now) = record { small = λ i. c .before .before .before .before .before .before .before .before .before .before .before .before .before .before .shared-slice-known .given i .fits } in
-    make-meets (a .dump .now) e small (c .before .before .before .before .before .before .before .count-rows .last .1 .0) (a .out .now) _ _ (c .before .before .before .before .before .before .before .before .before .part-count .result) _ (c .before .before .before .before .before .before .before .count-rows .ensures) (c .before .before .before .before .before .before .before .before .before .part-count .ensures .0) (let l : 8 + 8 * c .before .before .before .before .before .before .before .before .before .part-count .result - 8 ≡ 8 * c .before .before .before .before .before .before .before .before .before .part-count .result = omega arith in l) (c .before .before .write-counts .ensures)
+    let r = c .before .before .before .before .before .before .before in
+    let p = r .before .before .part-count in
+    let z = r .before .before .before .before .before in
+    let a = z .before .before .before .args in
+    let e = sym (z .check .ensures) ∙ ap verdict (r .before .before .before .enum-told .given .1) in
+    let small : Bytes (a .dump .now) = record { small = λ i. z .before .before .shared-slice-known .given i .fits } in
+    make-meets (a .dump .now) e small (r .count-rows .last .1 .0) (a .out .now) _ _ (p .result) _ (r .count-rows .ensures) (p .ensures .0)
+    (let l : 8 + 8 * p .result - 8 ≡ 8 * p .result = omega arith in l) (c .before .before .write-weighed .ensures)
 
 pub sheet-spec : {M : Type 1} → statement M
 sheet-spec =
@@ -83,10 +88,10 @@ sheet-spec =
     count-rows-requires
     mul-end
     add-end
-    sub-write-counts
-    part-write-counts-start
-    part-write-counts-end
-    slice-aggregate-write-counts
-    write-counts-requires
+    sub-write-weighed
+    part-write-weighed-start
+    part-write-weighed-end
+    slice-aggregate-write-weighed
+    write-weighed-requires
     same-length
     returns-2)

@@ -1,7 +1,7 @@
 //! Times of the library and of the reference on test sheets, with their
 //! ratio: both listings at t 1, the one by clique strength, and the merge
-//! tree. The sheets are those of the recipe of the bench's test sheets, from
-//! the starting number 1.
+//! tree; then what a run needs of the fullest sheet. The test sheets are those
+//! of the recipe of the bench's test sheets, from the starting number 1.
 //!
 //! The first argument gives the most slots of the sequential run: its time
 //! grows with the square of their number, since slots are found by a linear
@@ -122,6 +122,42 @@ fn tree(network: &Network, k: usize, slots: usize) -> String {
     show(times)
 }
 
+/// How many (k-1)-cliques lie in a k-clique: some part is linked to all of
+/// their parts.
+fn slots_needed(rows: &fast::Rows, parts: u64, k: usize) -> usize {
+    let mut slots = 0;
+    fast::each_clique(rows, 0, parts, k - 1, &mut |set| {
+        let common = fast::parts(set).fold(parts, |common, part| common & rows[part]);
+        slots += usize::from(common != 0);
+    });
+    slots
+}
+
+/// The times of what a run needs of the fullest sheet, told before it.
+fn needs(p: usize, k: usize) {
+    let mut sheet = vec![0; 8_584];
+    let length = lent::fullest_sheet(p, k, &mut sheet).count;
+    let sheet = &sheet[..length];
+    let rows = fast::rows(&bench_network(1, p, 100).links, 1);
+    let parts = fast::all_parts(p);
+    let counts = || {
+        let cliques = fast::count_cliques(&rows, parts, k, usize::MAX);
+        (cliques as u64, slots_needed(&rows, parts, k) as u64)
+    };
+    let need = lent::needed(sheet, k, 1);
+    assert_eq!((need.cliques, need.slots), counts());
+    let times = best(
+        || {
+            black_box(lent::needed(sheet, k, 1));
+        },
+        || {
+            black_box(counts());
+        },
+    );
+    let (slots, cliques) = (need.slots, need.cliques);
+    println!("{p:>3} {k:>2} {slots:>9} {cliques:>10}{}", show(times));
+}
+
 /// The column of a run that is left out.
 fn none() -> String {
     format!(" | {:>10} {:>10} {:>8}", "-", "-", "-")
@@ -180,5 +216,13 @@ fn main() {
                 row(p, density, k, most);
             }
         }
+    }
+    println!("\nwhat a run needs of the fullest sheet, told before it");
+    println!(
+        "{:>3} {:>2} {:>9} {:>10}{column}",
+        "p", "k", "slots", "cliques"
+    );
+    for k in 3..=6 {
+        needs(64, k);
     }
 }
