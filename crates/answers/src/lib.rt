@@ -1,3 +1,5 @@
+#![tactic(auto)]
+
 // What a call answers: a count, or a refusal with its number and its place; and checks on the way there.
 ghost use Rattle.std.specs.Prelude.{◌≡◌};
 ghost use Rattle.answers.specs.Verdict.{unless, ◌then◌};

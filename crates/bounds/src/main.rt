@@ -1,3 +1,5 @@
+#![tactic(auto)]
+
 // Prints the slot bound for a few part counts at each k, a row each: how many slots a run can need at most, or the refusal.
 use answers::Answer;
 use console::{field, text};

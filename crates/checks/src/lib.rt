@@ -1,3 +1,5 @@
+#![tactic(auto)]
+
 // What several calls test of their numbers: the part count, k, a link against the links before it, whose neighbours stand in rows, and a set of parts.
 ghost use Rattle.std.specs.Prelude.{◌≡◌, true, List, ◌≤◌, eqb};
 ghost use Rattle.sets.specs.Lists.{any};

@@ -1,3 +1,5 @@
+#![tactic(auto)]
+
 // What a program for people says and reads: words and numbers on standard output, complaints and refusals on standard error, files into lent space.
 // No contract can say which bytes are written or read: what is read is proved to lie within the space lent for it, and stored outputs say the rest.
 mod load;

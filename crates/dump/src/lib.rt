@@ -1,3 +1,5 @@
+#![tactic(auto)]
+
 // Sheets made from the sensor dump: its check, its rows counted pair by pair, and the sheet of these counts written.
 ghost use Rattle.std.specs.Prelude.{◌≡◌, [], map, ℕ, ◌*◌, ◌^◌, ◌<◌, ◌≤◌, length};
 ghost use Rattle.answers.specs.Verdict.{in_order};

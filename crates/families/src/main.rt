@@ -1,3 +1,5 @@
+#![tactic(auto)]
+
 // The program `families`: the answers on a link sheet in words, for the people who typed it.
 mod args;
 mod calls;

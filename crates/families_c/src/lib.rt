@@ -1,3 +1,5 @@
+#![tactic(auto)]
+
 // The C interface: each call as the crates below have it, with numbers, slices and structs of numbers only. include/families.h declares it.
 ghost use Rattle.std.specs.Prelude.{◌≡◌, length};
 ghost use Rattle.answers.specs.Answers.{says, say_of};

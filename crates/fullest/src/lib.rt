@@ -1,3 +1,5 @@
+#![tactic(auto)]
+
 // The fullest sheet of a part count: all pairs linked at weight 1, names P00, P01 and on.
 ghost use Rattle.std.specs.Prelude.{◌≡◌, ◌*◌, ◌/◌, ◌%◌, ◌<◌, ◌≤◌, length, get_or, take};
 ghost use Rattle.fullest.specs.Fullest.{part_name, part_names, FullMeets};

@@ -1,3 +1,5 @@
+#![tactic(auto)]
+
 // Joining entries, a union-find over lent numbers: where following them ends, ways made shorter, and whether none points up.
 ghost use Rattle.std.specs.Prelude.{◌≡◌, leb, eqb, length, get_or, replicate, ◌≤◌};
 ghost use Rattle.sets.specs.Lists.{all, below};

@@ -1,3 +1,5 @@
+#![tactic(auto)]
+
 // The journal of the steps: an entry for each link that remains, and the tables made again from the entries. For sister crates.
 ghost use Rattle.std.specs.Prelude.{◌≡◌, [], ◌∷◌, map, suc, ◌-◌, ◌≤◌, ◌<◌, min, length, get_or, set, take};
 ghost use Rattle.sets.specs.Value.{width, no_rows};

@@ -1,3 +1,5 @@
+#![tactic(auto)]
+
 // Communities as the bytes of a listing, in the order of their smallest cliques: one put in its place, and those at the ends of slots.
 ghost use Rattle.std.specs.Prelude.{◌≡◌, List, ◌++◌, ℕ, ◌+◌, ◌*◌, ◌<◌, ◌≤◌, ◌^◌, length};
 ghost use Rattle.answers.specs.Verdict.{accepted, written};

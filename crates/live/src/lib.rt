@@ -1,3 +1,5 @@
+#![tactic(auto)]
+
 // A dialogue on standard input and output: parts and links typed line by line, each answered at once, so that a planner can type, look and take back. It works
 // on the steps of the sequential run. No contract says which bytes are read or written; stored dialogues do.
 mod dialogue;

@@ -1,3 +1,5 @@
+#![tactic(auto)]
+
 // A made sheet: its links pair by pair, each put in its place among those so far at the start of three lent lists, and the sheet of names and a weight for
 // each pair written.
 ghost use Rattle.std.specs.Prelude.{◌≡◌, ◌≤◌, length};

@@ -1,3 +1,5 @@
+#![tactic(auto)]
+
 // The maximal-clique run: a listing from the maximal cliques, joined where they share k - 1 parts or more.
 ghost use Rattle.std.specs.Prelude.{◌≡◌, true, List, ◌≤◌, leb, length};
 ghost use Rattle.sets.specs.Value.{width, rows};

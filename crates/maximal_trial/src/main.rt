@@ -1,3 +1,5 @@
+#![tactic(auto)]
+
 // Runs the listing by maximal cliques and the meeting weight by both runs as the script in the file stdin says, on document 01's small sheets and with
 // refusals, and prints what they answer: held to the file stdout. A line's numbers are the slots of the tables, those of the last table and k, then the
 // threshold and the bytes of the output, or the two sets.

@@ -1,3 +1,5 @@
+#![tactic(auto)]
+
 // The mean link weight of a family of a sheet, by the tables of the sequential run.
 ghost use Rattle.std.specs.Prelude.{◌≡◌, true, ◌≤◌, length, take};
 ghost use Rattle.answers.specs.Verdict.{accepted};

@@ -1,3 +1,5 @@
+#![tactic(auto)]
+
 // What the meeting weight by either run shares: its answer, and the checks before 15.
 ghost use Rattle.std.specs.Prelude.{◌≡◌, ◌&&◌};
 ghost use Rattle.answers.specs.Verdict.{accepted};

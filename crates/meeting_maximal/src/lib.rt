@@ -1,3 +1,5 @@
+#![tactic(auto)]
+
 // The meeting weight of two k-cliques of a sheet by the maximal-clique run.
 ghost use Rattle.std.specs.Prelude.{◌≡◌, true, false, cond, List, eqb, length, take, ℕ, ◌≤◌, ◌<◌};
 ghost use Rattle.answers.specs.Verdict.{accepted};

@@ -1,3 +1,5 @@
+#![tactic(auto)]
+
 // The meeting weight of two k-cliques of a sheet by the sequential run.
 ghost use Rattle.std.specs.Prelude.{◌≡◌, length, ◌≤◌, max};
 ghost use Rattle.answers.specs.Verdict.{accepted};

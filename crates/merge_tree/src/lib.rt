@@ -1,3 +1,5 @@
+#![tactic(auto)]
+
 // The merge tree of a sheet: its lines, level by level, by the sequential run.
 ghost use Rattle.std.specs.Prelude.{◌≡◌};
 ghost use Rattle.runs.specs.Lent.{lent};

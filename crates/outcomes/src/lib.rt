@@ -1,3 +1,5 @@
+#![tactic(auto)]
+
 // What a call of the C interface gives back, and the answers of the calls behind it as such outcomes.
 ghost use Rattle.std.specs.Prelude.{◌≡◌};
 ghost use Rattle.answers.specs.Answers.{says};

@@ -1,3 +1,5 @@
+#![tactic(auto)]
+
 // The classes of sets that share k - 1 parts or more, by the frontier method, in place in a lent table: it stands in the order done, frontier, not
 // yet visited.
 ghost use Rattle.std.specs.Prelude.{◌≡◌, ◌-◌, ◌≤◌, ◌<◌};

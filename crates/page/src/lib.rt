@@ -1,3 +1,5 @@
+#![tactic(auto)]
+
 // The tree on a page of 72 columns: its rows counted, and written.
 ghost use Rattle.std.specs.Prelude.{◌≡◌, ◌*◌, ◌%◌, ◌<◌, ◌≤◌, eqb, length};
 ghost use mathlib.Core.List.{flatten};

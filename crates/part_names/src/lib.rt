@@ -1,3 +1,5 @@
+#![tactic(auto)]
+
 // The form of a part's name: visible bytes, then spaces to the end; names that are alike; and names checked in order.
 ghost use Rattle.std.specs.Prelude.{◌≡◌, not, ◌+◌, ◌*◌, ◌<◌, ◌≤◌, length, drop};
 ghost use Rattle.answers.specs.Model.{verdict};

@@ -1,3 +1,5 @@
+#![tactic(auto)]
+
 // The strong cliques of the clique list taken into the tables one after the other, as long as there are slots for them.
 ghost use Rattle.std.specs.Prelude.{◌≡◌, ◌||◌, map, ◌≤◌, ◌<◌, ◌+◌, leb, length, get_or};
 ghost use Rattle.std.specs.Float.{nan};

@@ -1,3 +1,5 @@
+#![tactic(auto)]
+
 // The strength of a clique: the product of its link weights as a 64-bit float, and its weakest link, both from a table of weights by pair.
 ghost use Rattle.std.specs.Prelude.{◌≡◌, min, ◌<◌};
 ghost use mathlib.Core.List.{foldl};

@@ -1,3 +1,5 @@
+#![tactic(auto)]
+
 // Answers on a link sheet in words: families and tree lines with the names of their parts, means, a sheet as text, refusals. No contract says which
 // bytes are written; stored outputs do.
 mod heads;

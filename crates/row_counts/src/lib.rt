@@ -1,3 +1,5 @@
+#![tactic(auto)]
+
 // A row of a dump counted in: each two parts that it holds have one more in a table of counts, at lower * 64 + higher.
 ghost use Rattle.std.specs.Prelude.{◌≡◌, ◌+◌, ◌*◌, ◌^◌, ◌<◌, length, get_or};
 ghost use Rattle.sets.specs.Value.{num};

@@ -1,3 +1,5 @@
+#![tactic(auto)]
+
 // What the calls on a sheet share: the checks before 15, the tables zeroed, and the links of a checked sheet as rows of neighbours and in the tables.
 ghost use Rattle.std.specs.Prelude.{◌≡◌, ◌<◌, ◌≤◌, length, take, drop};
 ghost use Rattle.answers.specs.Verdict.{accepted};

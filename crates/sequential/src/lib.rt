@@ -1,3 +1,5 @@
+#![tactic(auto)]
+
 // The steps of the sequential run: start, insert, taking back, and the listing now.
 ghost use Rattle.std.specs.Prelude.{◌≡◌};
 ghost use Rattle.answers.specs.Answers.{refuses, says};

@@ -1,3 +1,5 @@
+#![tactic(auto)]
+
 // The listing of a sheet's links by the sequential run.
 ghost use Rattle.std.specs.Prelude.{◌≡◌, ◌≤◌, length, take};
 ghost use Rattle.answers.specs.Verdict.{accepted};

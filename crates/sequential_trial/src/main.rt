@@ -1,3 +1,5 @@
+#![tactic(auto)]
+
 // Runs start, insert, taking back, the listing now and the listing of a sheet as the script in the file stdin says, on document 01's small sheets and with
 // refusals in between, and prints what they answer: held to the file stdout. A line's numbers are the slots of the tables, those of the last table and k, then
 // the threshold and the bytes of the output, or the part count, the bytes of the output and where the links stand among the bytes, a link from part 255 for

@@ -1,3 +1,5 @@
+#![tactic(auto)]
+
 // Sets of parts 0 to 63, held by value, and tables of them. The number of a set is `num` of specs/Value.antt; each contract gives the
 // number of the answer by a function of specs/Sets.antt, and a table by the functions of specs/Value.antt.
 ghost use Rattle.std.specs.Prelude.{◌≡◌, cond, ltb, leb, eqb, length, replicate, min, ◌+◌};
@@ -5,7 +7,7 @@ ghost use Rattle.sets.specs.Sets.{has, one, meet, union, minus, into, out, size,
 ghost use Rattle.sets.specs.Value.{width, num, rows, row, store, sized, number_at, no_rows, set_length, with_set, set_at};
 
 // Its word is nobody else's to see: a wider set changes this crate alone.
-#[derive(Drop)]
+#[derive(Clone, Copy)]
 pub struct Set {
     word: u64,
 }

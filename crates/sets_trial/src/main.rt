@@ -1,3 +1,5 @@
+#![tactic(auto)]
+
 // Runs each function of the crate sets on a few sets, edges among them, and prints what it answers: held to the file stdout.
 use console::{field, text};
 use sets::Set;

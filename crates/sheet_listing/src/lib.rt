@@ -1,3 +1,5 @@
+#![tactic(auto)]
+
 // The listing of a sheet, by the run that the caller names.
 ghost use Rattle.std.specs.Prelude.{◌≡◌, ℕ, ◌≤◌, length, take};
 ghost use Rattle.answers.specs.Verdict.{accepted};

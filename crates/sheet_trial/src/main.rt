@@ -1,3 +1,5 @@
+#![tactic(auto)]
+
 // Checks, reads and writes small sheets as the script in the file stdin says, each refusal once and the orders between them, and prints what the calls answer:
 // held to the file stdout. A line's numbers are a part, or the lengths of the lent lists and of the output.
 use answers::Answer;

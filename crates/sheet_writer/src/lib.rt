@@ -1,3 +1,5 @@
+#![tactic(auto)]
+
 // The writer of a link sheet: a network's lists into lent bytes.
 ghost use Rattle.std.specs.Prelude.{◌≡◌, ◌+◌, ◌*◌, ◌<◌, ◌≤◌, length, drop};
 ghost use mathlib.Core.List.{[], ◌++◌, map, flatten};

@@ -1,3 +1,5 @@
+#![tactic(auto)]
+
 // The four lent tables of the sequential run: slots found, placed and joined.
 ghost use Rattle.std.specs.Prelude.{◌≡◌, List, length, ℕ, ◌<◌, ◌^◌, min, max};
 ghost use Rattle.sets.specs.Sets.{union, out, lesser, lowest};

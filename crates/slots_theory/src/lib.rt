@@ -1,1 +1,3 @@
+#![tactic(auto)]
+
 // What the four tables show, and that they show it with one clique more. No code.

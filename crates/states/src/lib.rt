@@ -1,3 +1,5 @@
+#![tactic(auto)]
+
 // The state of a sequential run, and what its steps test before they write: the number of the first test that fails, or 0.
 ghost use Rattle.std.specs.Prelude.{◌≡◌, ◌≤◌};
 ghost use Rattle.percolation.specs.Links.{link};

@@ -1,3 +1,5 @@
+#![tactic(auto)]
+
 // The rows that sequential_trial prints of a start, of inserts and takings back, and of the listing now: what each was answered and what became of the tables.
 // No contract can say which bytes are written: a stored output does.
 use answers::Answer;

@@ -1,3 +1,5 @@
+#![tactic(auto)]
+
 // The listing of a sheet by clique strength: the communities of the k-cliques whose weakest link or product is at or above a threshold.
 ghost use Rattle.std.specs.Prelude.{◌≡◌, length};
 ghost use Rattle.answers.specs.Verdict.{accepted};

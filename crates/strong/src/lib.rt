@@ -1,3 +1,5 @@
+#![tactic(auto)]
+
 // `strong`: the families of a sheet by clique strength, in words.
 ghost use Rattle.std.specs.Prelude.{◌≡◌};
 ghost use Rattle.products.specs.Products.{float_of};

@@ -1,3 +1,5 @@
+#![tactic(auto)]
+
 // What the listing of a sheet by clique strength tests before it stores a clique, and its lent clique list.
 ghost use Rattle.std.specs.Prelude.{◌≡◌, not, ◌≤◌, length, take};
 ghost use Rattle.std.specs.Float.Ieee.{is_nan};

@@ -1,3 +1,5 @@
+#![tactic(auto)]
+
 // The listing of the strong ones of the cliques in the clique list, by the tables of the sequential run.
 ghost use Rattle.std.specs.Prelude.{◌≡◌, true, map, ◌≤◌, length};
 ghost use Rattle.sets.specs.Lists.{keep, below};

@@ -1,3 +1,5 @@
+#![tactic(auto)]
+
 // C(n, r), the number of r-part subsets of n parts, by the product formula, and the slot bound.
 ghost use Rattle.std.specs.Prelude.{◌≡◌, ◌≤◌};
 ghost use Rattle.answers.specs.Answers.{says, say_of};

@@ -1,3 +1,5 @@
+#![tactic(auto)]
+
 // The tables with one clique more: its sub-cliques in slots, those slots joined, and the clique among those of their class.
 ghost use Rattle.std.specs.Prelude.{◌≡◌, List, ℕ, ◌≤◌};
 ghost use Rattle.sets.specs.Sets.{members};

@@ -1,3 +1,5 @@
+#![tactic(auto)]
+
 // The text form of a link sheet: lines that name parts and links, read into a network's lists.
 ghost use Rattle.std.specs.Prelude.{◌≡◌, true, not, cond, ◌&&◌, List, [], ℕ, ◌*◌, ◌-◌, ◌≤◌, leb, length, get_or};
 ghost use Rattle.sets.specs.Lists.{all, same};

@@ -1,3 +1,5 @@
+#![tactic(auto)]
+
 // The tree program: reads a sheet from standard input, takes k 3, and writes the rows of its merge tree, or one refusal.
 use answers::Answer;
 use console::{field, text};

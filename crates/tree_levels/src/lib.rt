@@ -1,3 +1,5 @@
+#![tactic(auto)]
+
 // The end of a level of the merge tree, in the tables of the sequential run: the lines that start, their numbers, the lines that go into them, and
 // what each line grew to.
 ghost use Rattle.std.specs.Prelude.{◌≡◌, cond, ◌&&◌, suc, ◌+◌, ◌-◌, ◌^◌, ◌<◌, ◌≤◌, eqb, ltb, length};

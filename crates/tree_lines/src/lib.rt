@@ -1,3 +1,5 @@
+#![tactic(auto)]
+
 // Lines in the output of the merge tree: a line of a tree in bytes, in its place among others, the field for the line that it goes into, and its
 // union.
 ghost use Rattle.std.specs.Prelude.{◌≡◌, List, ℕ, ◌+◌, ◌%◌, ◌^◌, ◌<◌, ◌≤◌, length};

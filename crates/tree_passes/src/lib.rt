@@ -1,3 +1,5 @@
+#![tactic(auto)]
+
 // The two passes over the levels of an admitted sheet: how many lines its merge tree has, and the lines written.
 ghost use Rattle.std.specs.Prelude.{◌≡◌, ◌<◌, ◌≤◌, length, take};
 ghost use Rattle.answers.specs.Verdict.{accepted, written};

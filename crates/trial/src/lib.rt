@@ -1,3 +1,5 @@
+#![tactic(auto)]
+
 // What the trial programs share: a script's lines as calls, and answers, outputs and tables in words. No contract can say which bytes are written: stored
 // outputs do.
 mod say;

@@ -1,3 +1,5 @@
+#![tactic(auto)]
+
 // Lines typed on standard input: each as it comes, and what it asks for.
 mod commands;
 mod input;

@@ -1,3 +1,5 @@
+#![tactic(auto)]
+
 // The weights of a sheet's links by pair, in a table: those of q and r, q the lower part, at q * 64 + r.
 ghost use Rattle.std.specs.Prelude.{◌≡◌, ◌<◌, ◌*◌, ◌+◌, length, set};
 ghost use Rattle.answers.specs.Verdict.{accepted};

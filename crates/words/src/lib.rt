@@ -1,3 +1,5 @@
+#![tactic(auto)]
+
 // Bytes as lines and words: where a line ends, its words, and which of the text's forms it has.
 ghost use Rattle.std.specs.Prelude.{◌≡◌, not, [], ℕ, suc, ◌+◌, ◌<◌, ◌≤◌, eqb, length, get_or, drop};
 ghost use Rattle.words.specs.Lines.{line_of, blank, words, comment, words_say, leading, formed, WordAt};
