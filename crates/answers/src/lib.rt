@@ -6,14 +6,14 @@ ghost use Rattle.answers.specs.Verdict.{unless, ◌then◌};
 ghost use Rattle.answers.specs.Model.{verdict};
 
 // Document 01's answer to a call that counts: what the count counts is said at each call. A refusal has document 01's number and place.
-#[derive(Drop)]
+#[derive(Clone, Copy)]
 pub enum Answer {
     Count(usize),
     Refused(u8, usize),
 }
 
 // What one check on the way says: go on, or a refusal's number and place.
-#[derive(Drop)]
+#[derive(Clone, Copy)]
 pub enum Tried {
     Pass,
     Stop(u8, usize),

@@ -11,7 +11,7 @@ pub use refusal::{few_slots, refused, tell, tell_long};
 pub use say::{counted, end, error, error_field, error_of, field, number, put, text};
 
 // How many bytes were read, or that reading failed, which was told.
-#[derive(Drop)]
+#[derive(Clone, Copy)]
 pub enum Loaded {
     Bytes(usize),
     Failed,

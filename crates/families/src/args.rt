@@ -5,7 +5,7 @@ use check::same;
 
 // A command with k and the threshold as it takes them; Fullest has the part count before k, Meet the place of `--` among the arguments, Mean names from
 // argument 4 on.
-#[derive(Drop)]
+#[derive(Clone, Copy)]
 pub enum Order {
     Help,
     Pack,
@@ -25,7 +25,7 @@ pub enum Order {
     Nothing,
 }
 
-#[derive(Drop)]
+#[derive(Clone, Copy)]
 enum KT {
     Are(usize, u16),
     Not,

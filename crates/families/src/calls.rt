@@ -8,7 +8,7 @@ use runs::Method;
 use sets::Set;
 
 // A call with k, and with the threshold or the two cliques.
-#[derive(Drop)]
+#[derive(Clone, Copy)]
 pub enum Call {
     Listing(usize, u16),
     ByMean(usize, u16),
@@ -18,7 +18,7 @@ pub enum Call {
 }
 
 // A call by the run that answers it.
-#[derive(Drop)]
+#[derive(Clone, Copy)]
 enum Run {
     Listing(Method, usize, u16),
     Tree(usize),

@@ -3,13 +3,13 @@ use console::error_of;
 use report::find;
 use sets::Set;
 
-#[derive(Drop)]
+#[derive(Clone, Copy)]
 enum Named {
     Part(usize),
     Nobody,
 }
 
-#[derive(Drop)]
+#[derive(Clone, Copy)]
 pub enum Clique {
     Of(Set),
     Unknown,

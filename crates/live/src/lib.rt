@@ -14,7 +14,7 @@ use states::State;
 
 // What goes from line to line beside the parts, the tables and the journal: whether the steps have been started with all parts, whether the dialogue goes on,
 // and the state of the steps.
-#[derive(Drop)]
+#[derive(Clone, Copy)]
 struct Session {
     started: bool,
     going: bool,

@@ -4,7 +4,7 @@ use report::find;
 use sheet::part_count;
 
 // The lower part, the higher part and the weight; or that there is none, which was told: whether standard output takes more.
-#[derive(Drop)]
+#[derive(Clone, Copy)]
 pub enum Typed {
     Link(usize, usize, u16),
     Told(bool),

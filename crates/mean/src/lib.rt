@@ -18,14 +18,14 @@ use sets::{Rows, Set};
 use sheet::Checked;
 
 // The sum of the weights of a family's links, their number, the whole quotient and the remainder; or a refusal with its number and its place.
-#[derive(Drop)]
+#[derive(Clone, Copy)]
 pub enum FamilyMean {
     Weights(usize, usize, usize, usize),
     Refused(u8, usize),
 }
 
 // Weights of links added up, and how many links they are.
-#[derive(Drop)]
+#[derive(Clone, Copy)]
 pub struct Tally {
     pub sum: usize,
     pub links: usize,

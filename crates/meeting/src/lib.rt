@@ -13,7 +13,7 @@ use sets::Set;
 use sheet::Checked;
 
 // A meeting weight, never, or a refusal with its number and its place.
-#[derive(Drop)]
+#[derive(Clone, Copy)]
 pub enum Met {
     Weight(u16),
     Never,

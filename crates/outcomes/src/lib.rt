@@ -19,7 +19,7 @@ use states::State;
 
 // What a call answers: number 0 with what it counts, or a refusal's number and place.
 #[repr(C)]
-#[derive(Drop)]
+#[derive(Clone, Copy)]
 pub struct Outcome {
     pub number: u8,
     pub place: usize,
@@ -29,7 +29,7 @@ pub struct Outcome {
 
 // What a mean gives back: its outcome, which counts the links, and the numbers; zeros on a refusal.
 #[repr(C)]
-#[derive(Drop)]
+#[derive(Clone, Copy)]
 pub struct Mean {
     pub outcome: Outcome,
     pub sum: u64,
@@ -39,7 +39,7 @@ pub struct Mean {
 
 // What the needs of a run give back: the numbers of k-cliques, joins and slots; zeros on a refusal.
 #[repr(C)]
-#[derive(Drop)]
+#[derive(Clone, Copy)]
 pub struct Need {
     pub outcome: Outcome,
     pub cliques: u64,
@@ -49,7 +49,7 @@ pub struct Need {
 
 // What a step gives back: its outcome, and the state for the next one.
 #[repr(C)]
-#[derive(Drop)]
+#[derive(Clone, Copy)]
 pub struct Started {
     pub outcome: Outcome,
     pub state: State,

@@ -9,7 +9,7 @@ ghost use Rattle.overlaps.specs.Model.{swapped, swept, swept_from, grown, class_
 use sets::Set;
 
 // A class in the table: where it ends, its smallest clique and its union.
-#[derive(Drop)]
+#[derive(Clone, Copy)]
 pub struct Class {
     pub end: usize,
     small: Set,

@@ -12,21 +12,21 @@ ghost use Rattle.products.specs.Model.{pair_weight, table_weights, part_weights}
 use sets::Set;
 
 // A clique, with its product.
-#[derive(Drop)]
+#[derive(Clone, Copy)]
 pub struct Scored {
     pub set: Set,
     pub product: f64,
 }
 
 // What a clique is measured by, with the threshold.
-#[derive(Drop)]
+#[derive(Clone, Copy)]
 pub enum Measure {
     Weakest(u16),
     Product(f64),
 }
 
 // The two measures of a clique.
-#[derive(Drop)]
+#[derive(Clone, Copy)]
 struct Strength {
     weakest: u16,
     product: f64,

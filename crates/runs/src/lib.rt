@@ -19,7 +19,7 @@ use sets::Rows;
 use sheet::Checked;
 
 // Which run makes a listing.
-#[derive(Drop)]
+#[derive(Clone, Copy)]
 pub enum Method {
     Sequential,
     Maximal,

@@ -13,7 +13,7 @@ use answers::Answer;
 use states::State;
 
 // What a step gives back: its answer, and the state for the next one.
-#[derive(Drop)]
+#[derive(Clone, Copy)]
 pub struct Stepped {
     pub answer: Answer,
     pub state: State,

@@ -12,7 +12,7 @@ use sets::Rows;
 // What goes from step to step beside tables and journal: p, k, how many slots are used, the last weight (65,535 with no link), how many links remain, and
 // the neighbours of each part.
 #[repr(C)]
-#[derive(Drop)]
+#[derive(Clone, Copy)]
 pub struct State {
     pub p: usize,
     pub k: usize,

@@ -14,21 +14,21 @@ ghost use Rattle.text.specs.Model.{Held, PartMeets, PartsMeet, FieldsMeet, TakeM
 use words::Form;
 
 // What a text says: its part and link counts, or a fault with its number and its place.
-#[derive(Drop)]
+#[derive(Clone, Copy)]
 pub enum Text {
     Fine(usize, usize),
     Faulty(u8, usize),
 }
 
 // What a line leaves: a count of parts or of links, or a fault with its number and its place.
-#[derive(Drop)]
+#[derive(Clone, Copy)]
 enum Step {
     Count(usize),
     Fault(u8, usize),
 }
 
 // What a link line says: the lower part, the higher part and the weight, or a fault's number.
-#[derive(Drop)]
+#[derive(Clone, Copy)]
 enum Fields {
     Link(u16, u16, u16),
     Fault(u8),

@@ -13,7 +13,7 @@ pub fn line(script: &[u8], at: usize) -> &[u8]
 }
 
 // Where a line with a call starts, where the bytes that it is made on are spelled, and where the script goes on.
-#[derive(Drop)]
+#[derive(Clone, Copy)]
 pub struct Row {
     pub call: usize,
     pub bytes: usize,

@@ -6,7 +6,7 @@ ghost use Rattle.typed.specs.Commands.{word_asks, line_asks};
 use words::Form;
 
 // A blank line or a comment is silent, as it is for `pack`.
-#[derive(Drop)]
+#[derive(Clone, Copy)]
 pub enum Command {
     Silent,
     Part,

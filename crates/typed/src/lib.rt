@@ -11,7 +11,7 @@ pub use input::{first, next_line};
 const READS: usize = 1000000;
 
 // What a buffer of input keeps: the bytes from `from` to before `to`, and whether none follow them.
-#[derive(Drop)]
+#[derive(Clone, Copy)]
 pub struct Kept {
     pub from: usize,
     pub to: usize,
@@ -19,7 +19,7 @@ pub struct Kept {
 }
 
 // The next line, from its first byte to before its end; that it was too long; or that there is none.
-#[derive(Drop)]
+#[derive(Clone, Copy)]
 pub enum Next {
     Line(usize, usize),
     Long,
@@ -27,7 +27,7 @@ pub enum Next {
 }
 
 // The next line, and what is kept behind it.
-#[derive(Drop)]
+#[derive(Clone, Copy)]
 pub struct Taken {
     pub next: Next,
     pub kept: Kept,

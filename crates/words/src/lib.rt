@@ -5,7 +5,7 @@ ghost use Rattle.std.specs.Prelude.{◌≡◌, not, [], ℕ, suc, ◌+◌, ◌<�
 ghost use Rattle.words.specs.Lines.{line_of, blank, words, comment, words_say, leading, formed, WordAt};
 
 // The forms of a line. A blank line or a comment is silent.
-#[derive(Drop)]
+#[derive(Clone, Copy)]
 pub enum Form {
     Silent,
     Part,
