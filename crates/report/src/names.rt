@@ -1,13 +1,16 @@
 // Names of parts, as a sheet has them that was checked before.
 use check::same;
 use console::text;
+use memchr::memchr;
 use sets::Set;
 
 // The name of part q without its spaces; none where the sheet has no such part.
 pub fn name(s: &[u8], q: usize) -> &[u8] {
     let all = sheet::name_in(s, q);
-    let end = bytes::scan::find(all, 0, all.len(), b' ');
-    &all[0..end]
+    match memchr(b' ', all) {
+        Some(end) => &all[0..end],
+        None => all,
+    }
 }
 
 fn put(s: &[u8], q: usize) {

@@ -365,7 +365,7 @@ module _ {A : Type 0} (first : A → A → Bool) where
         go (inl e) rest = Memᴰ.head e
         go (inr n) rest = Memᴰ.tail (rest n)
 
-    pub sorted_at : (l : List A) {z : A} → z ∈ l → z ∈ sorted first l
+    pub sorted_at : {z : A} (l : List A) → z ∈ l → z ∈ sorted first l
     unfolding sorted
     sorted_at l (Memᴰ.head {x = x} {xs = xs} e) = placed_at x (sorted first xs) (inl e)
     sorted_at l (Memᴰ.tail {x = x} {xs = xs} m) = placed_at x (sorted first xs) (inr (sorted_at xs m))

@@ -183,7 +183,7 @@ union_part q (s ∷ l) h = go (or_cases (has q s) (has q (union_of l)) (sym (has
     go (inl e) rest = (s, Memᴰ.head refl, e)
     go (inr e) rest = let r = rest e in (r.0, Memᴰ.tail r.1, r.2)
 
-pub union_has : (q : ℕ) (l : List ℕ) {s : ℕ} → s ∈ l → has q s ≡ true → has q (union_of l) ≡ true
+pub union_has : {s : ℕ} (q : ℕ) (l : List ℕ) → s ∈ l → has q s ≡ true → has q (union_of l) ≡ true
 unfolding union_of
 union_has q l (Memᴰ.head {x = s} {xs = xs} e) h = has_union q s (union_of xs) ∙ or_left (has q s) (has q (union_of xs)) (ap (has q) (sym e) ∙ h)
 union_has q l (Memᴰ.tail {x = s} {xs = xs} m) h = has_union q s (union_of xs) ∙ or_right (has q s) (has q (union_of xs)) (union_has q xs m h)
