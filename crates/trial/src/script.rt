@@ -8,7 +8,7 @@ pub fn line(script: &[u8], at: usize) -> &[u8]
     if script.len() < at {
         return &script[0..0];
     }
-    let end = bytes::scan::find(script, at, script.len(), b'\n');
+    let end = console::find(script, at, script.len(), b'\n');
     &script[at..end]
 }
 
@@ -108,7 +108,7 @@ pub fn spelled(line: &[u8], out: &mut [u8]) -> usize
 // ---- calls
 
 pub fn label(line: &[u8]) -> &[u8] {
-    let end = bytes::scan::find(line, 0, line.len(), b':');
+    let end = console::find(line, 0, line.len(), b':');
     &line[0..end]
 }
 
@@ -116,7 +116,7 @@ pub fn label(line: &[u8]) -> &[u8] {
 fn call_at(line: &[u8]) -> usize
     ensures { result ≤ length line.now }
 {
-    let end = bytes::scan::find(line, 0, line.len(), b':');
+    let end = console::find(line, 0, line.len(), b':');
     if line.len() - end < 2 {
         return line.len();
     }

@@ -3,8 +3,7 @@ ghost use Rattle.std.specs.Prelude.{◌≡◌, List, ◌++◌, ℕ, suc, ◌-◌
 ghost use Rattle.typed.specs.Lines.{KeptIn, TakenIn};
 
 use crate::{Kept, Next, READS, Taken};
-use bytes::scan::find;
-use console::{Loaded, read_on};
+use console::{Loaded, find, read_on};
 use libc::STDIN_FILENO;
 
 fn none(ended: bool) -> Kept
