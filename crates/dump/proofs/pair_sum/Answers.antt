@@ -1,0 +1,32 @@
+use borrow.Author.Rules.{rules}
+use mathlib.Core.Path.{◌≡◌, sym, ap, ◌∙◌}
+use native.Mathlib.Omega.{arith}
+use Prim.Native.Nat.{ℕ, ◌+◌, ◌-◌, ◌*◌, ◌≤◌}
+use Rattle.dump_theory.specs.Rows.{pairs_in}
+use Rattle.dump.specs.Dump.{rows_in, row_of, tripped}
+use Rattle.dump.proofs.Added.{added_to, added_none, added_more}
+use Rattle.dump.proofs.pair_sum.Goals as goal
+
+pub loop-i-init : goal.loop-i-init
+loop-i-init c = (omega arith, omega arith, sym (added_none pairs_in (row_of c.args.d.now)))
+
+pub overflow_add-pairs : goal.overflow_add-pairs
+overflow_add-pairs c =
+    let l = c.loop-i in
+    record { fits = omega (arith, l.invariant.0, l.invariant.1, c.row_count-n.ensures.1, c.pairs_in-pairs.ensures.1) }
+
+pub loop-i-preserved : goal.loop-i-preserved
+loop-i-preserved c =
+    let l = c.loop-i in
+    let here = c.pairs_in-pairs.ensures.0 ∙ ap pairs_in c.row.ensures.0 in (
+      omega (arith, c.loop-i-test.true),
+      omega (arith, l.invariant.1, c.pairs_in-pairs.ensures.1),
+      omega (arith, l.invariant.2, here, added_more pairs_in (row_of c.args.d.now) l.i),
+    )
+
+pub returns : goal.returns
+unfolding tripped
+returns c =
+    let l = c.loop-i in
+    let d = c.args.d.now in
+    l.invariant.2 ∙ ap (added_to pairs_in (row_of d)) (let e : l.i ≡ rows_in d = omega (arith, l.invariant.0, c.row_count-n.ensures.0) in e)

@@ -1,0 +1,37 @@
+use borrow.Author.Rules.{rules}
+use mathlib.Core.Path.{◌≡◌, refl, sym, ap, ◌∙◌}
+use Prim.Native.Nat.{◌+◌, ◌*◌, ◌-◌}
+use native.Mathlib.Omega.{arith}
+use Rattle.answers.specs.Answers.{say_of}
+use Rattle.answers.specs.Model.{verdict}
+use Rattle.sheet_writer.specs.RoundTrip.{Bytes}
+use Rattle.dump_theory.proofs.Counted.{counts_none}
+use Rattle.dump.proofs.Accepted.{front_length, front_most, dump_front}
+use Rattle.dump.proofs.MadeSheets.{make_meets, make_refused}
+use Rattle.dump.proofs.sheet.Goals as goal
+
+pub returns-in-Stop : goal.returns-in-Stop
+unfolding say_of
+returns-in-Stop c =
+    let a = c.args in
+    make_refused a.dump.now a.out.now _ _ _ (sym c.check.ensures ∙ ap verdict c.n-1.given.1) refl
+
+pub count_rows-requires : goal.count_rows-requires
+count_rows-requires c = counts_none
+
+pub write_weighed-requires : goal.write_weighed-requires
+write_weighed-requires c =
+    let r = c in
+    let e = sym r.check.ensures ∙ ap verdict r.enum_told-1.given.1 in
+    (omega (arith, front_most _ (dump_front _ e), r.part_count-p.ensures.0), r.count_rows.ensures.places)
+
+pub returns : goal.returns
+returns c =
+    let r = c in
+    let p = r.part_count-p in
+    let z = r in
+    let a = z.args in
+    let e = sym z.check.ensures ∙ ap verdict r.enum_told-1.given.1 in
+    let small : Bytes a.dump.now = record { small = λ i. (z.shared_slice_known-1.given i).fits } in
+    make_meets a.dump.now e small r.count_rows.new.1.0 a.out.now _ _ p.result _ r.count_rows.ensures p.ensures.0
+    (let l : 8 + 8 * p.result - 8 ≡ 8 * p.result = omega arith in l) c.write_weighed.ensures

@@ -1,0 +1,18 @@
+use borrow.Author.Rules.{rules}
+use mathlib.Core.Path.{◌≡◌, sym, ap, ◌∙◌}
+use native.Mathlib.Omega.{arith}
+use Prim.Native.Nat.{ℕ, ◌+◌, ◌-◌, ◌*◌, ◌≤◌}
+use Rattle.percolation.specs.Links.{Link}
+use Rattle.sheet.specs.Sheet.{links, link_of, links_of}
+use Rattle.percolation.specs.Weights.{weight_sum}
+use Rattle.dump.proofs.Added.{added_to, added_none, added_more}
+use Rattle.dump.proofs.weight_sum.Given as goal
+
+abbrev pub weight_of : Link → ℕ
+weight_of l = l.weight
+
+abbrev pub invariant-loop-j : goal.invariant-loop-j
+invariant-loop-j l = (l.j ≤ l.m) × (l.weight ≤ 65535 * l.j) × (l.weight ≡ added_to weight_of (link_of l.s) l.j)
+
+abbrev pub decreases-loop-j : goal.decreases-loop-j
+decreases-loop-j l = l.m - l.j

@@ -1,0 +1,7 @@
+use mathlib.Core.Path.{ap, ◌∙◌}
+use Rattle.outcomes.specs.Outcomes.{sheet_shown}
+use borrow.Author.Rules.{rules}
+use Rattle.families_c.proofs.families_read.Goals as goal
+
+pub returns : goal.returns
+returns c = (c.of_sheet.ensures ∙ ap sheet_shown c.read.ensures.answer, c.read.ensures.lists)

@@ -1,0 +1,7 @@
+use mathlib.Core.Path.{ap, ◌∙◌}
+use Rattle.outcomes.specs.Outcomes.{shown}
+use borrow.Author.Rules.{rules}
+use Rattle.families_c.proofs.families_write.Goals as goal
+
+pub returns : goal.returns
+returns c = (c.of_answer.ensures ∙ ap shown c.write.ensures.answer, c.write.ensures.bytes)

@@ -1,0 +1,38 @@
+use native.Mathlib.Omega.{arith}
+use Prim.Native.Nat.{◌<◌}
+use lib.ListN.{length}
+use borrow.Author.Rules.{rules}
+use Rattle.joining.proofs.Walk.{falls_inside, Halving, halving_begin, halving_stop, halving_last, halving_turn}
+use Rattle.joining.proofs.halve.Invariants.{reached}
+use Rattle.joining.proofs.halve.Goals as goal
+
+pub loop-r-init : goal.loop-r-init
+loop-r-init c = halving_begin _ _
+
+pub returns-then-r-f : goal.returns-then-r-f
+returns-then-r-f c =
+    let x = halving_stop _ _ _ _ _ c.loop-r.invariant c.entry-f.ensures c.if-r-f.true in
+    ((x.0, omega arith), x.1)
+
+pub returns-then-f-g : goal.returns-then-f-g
+returns-then-f-g c =
+    let b = c in
+    let x = halving_last _ _ _ _ _ b.loop-r.invariant b.entry-f.ensures _ c.entry-g.ensures (omega arith) c.if-f-g.true in
+    ((x.0, omega arith), x.1)
+
+pub offset_bounds-entries-f : goal.offset_bounds-entries-f
+offset_bounds-entries-f c = omega (arith, reached c)
+
+pub bounds-entries-f : goal.bounds-entries-f
+bounds-entries-f c = omega (arith, reached c)
+
+pub offset_bounds-entries-r : goal.offset_bounds-entries-r
+offset_bounds-entries-r c = omega (arith, reached c)
+
+pub bounds-entries-r : goal.bounds-entries-r
+bounds-entries-r c = omega (arith, reached c)
+
+pub loop-r-preserved : goal.loop-r-preserved
+loop-r-preserved c =
+    let b = c in
+    halving_turn _ _ _ _ _ b.loop-r.invariant b.entry-f.ensures _ c.entry-g.ensures (omega arith) (omega arith)

@@ -1,0 +1,7 @@
+use Rattle.journal.specs.Journal.{journal_entry}
+use borrow.Author.Rules.{rules}
+use Rattle.journal.proofs.entry.Goals as goal
+
+pub returns : goal.returns
+unfolding journal_entry
+returns c = search rules

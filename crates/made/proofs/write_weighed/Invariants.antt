@@ -1,0 +1,24 @@
+use borrow.Author.Rules.{rules}
+use mathlib.Core.Path.{◌≡◌, refl, sym, ap, ap₂, ◌∙◌, subst}
+use mathlib.Core.List.{List}
+use Prim.Native.Nat.{ℕ, ◌+◌, ◌*◌, ◌-◌, ◌/◌, ◌%◌, ◌≤◌}
+use native.Mathlib.Omega.{arith}
+use lib.ListN.{length, get_or}
+use lib.Seq.{length-take-le}
+use Rattle.percolation.specs.Links.{link}
+use Rattle.link_order.specs.Order.{link_lists}
+use Rattle.sheet.specs.Network.{Network}
+use Rattle.sheet_writer.specs.Writing.{WriteMeets}
+use Rattle.made.specs.Made.{weighed_of, weighed, weight_at}
+use Rattle.made.specs.Model.{LinksStand, pairs_before}
+use Rattle.made.proofs.Standing.{room_for, stand_network}
+use Rattle.made.proofs.Turns.{turn_first, turn_pair, turn_none, turn_last, turn_few}
+use Rattle.made.proofs.write_weighed.Given as goal
+
+abbrev pub invariant-loop-i : goal.invariant-loop-i
+invariant-loop-i l =
+    LinksStand (weighed_of (weight_at l.table) (pairs_before l.p l.i)) (link_lists l.initial.lower l.initial.higher l.initial.weights) (link_lists l.lower l.higher l.weights) l.m × (l.i ≤ 4096)
+    × (length l.lower ≡ 4096) × (length l.higher ≡ 4096) × (length l.weights ≡ 4096)
+
+abbrev pub decreases-loop-i : goal.decreases-loop-i
+decreases-loop-i l = 4096 - l.i

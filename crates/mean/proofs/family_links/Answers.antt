@@ -1,0 +1,29 @@
+use mathlib.Core.Path.{◌∙◌}
+use native.Mathlib.Omega.{arith}
+use borrow.Author.Rules.{rules}
+use Rattle.percolation.proofs.Ranges.{good_k_lem}
+use Rattle.runs.proofs.Admitted.{call_sheet, call_k}
+use Rattle.mean.proofs.Calls.{family_counted}
+use Rattle.mean.proofs.family_links.Goals as goal
+
+pub take_links-used-requires : goal.take_links-used-requires
+take_links-used-requires c =
+    let q = c.requires in
+    (call_sheet _ _ _ q.0, omega arith, q.1, (good_k_lem _ (call_k _ _ _ q.0)).0, omega arith)
+
+pub count_links-requires : goal.count_links-requires
+count_links-requires c = let q = c.requires in (call_sheet _ _ _ q.0, q.1)
+
+pub shape_of-sets : goal.shape_of-sets
+shape_of-sets c = c.take_links-used.auto.1.1.0 ∙ c.clear.auto.0
+
+pub shape_of-entries : goal.shape_of-entries
+shape_of-entries c = c.take_links-used.auto.1.1.1.0 ∙ c.clear.auto.1.0
+
+pub shape_of-smallest : goal.shape_of-smallest
+shape_of-smallest c = c.take_links-used.auto.1.1.1.1.0 ∙ c.clear.auto.1.1.0
+
+pub returns : goal.returns
+returns c =
+    let q = c.requires in
+    family_counted _ _ _ q.0 c.args.n q.2 _ q.3 _ _ _ c.no_rows-rows.ensures c.clear.ensures c.take_links-used.ensures.0 _ _ c.slot_of-i.ensures c.root-r.ensures.0 _ c.cover-covered.ensures _ c.count_links.ensures

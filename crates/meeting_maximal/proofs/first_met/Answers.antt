@@ -1,0 +1,13 @@
+use mathlib.Core.Path.{sym, ◌∙◌}
+use borrow.Author.Rules.{rules}
+use Rattle.meeting_maximal.proofs.Joined.{met_kept, met_now, met_not}
+use Rattle.meeting_maximal.proofs.first_met.Goals as goal
+
+pub returns-then-met-ne0 : goal.returns-then-met-ne0
+returns-then-met-ne0 c = λ L p st one sa sb. met_kept _ _ c.if-met-ne0.true
+
+pub returns-then-joined_in : goal.returns-then-joined_in
+returns-then-joined_in c = let j = c in λ L p st one sa sb. met_now _ _ _ j.if-met-ne0.false (sym (j.joined_in.ensures L p st one sa sb) ∙ c.if-joined_in.true)
+
+pub returns : goal.returns
+returns c = let j = c in λ L p st one sa sb. met_not _ _ _ j.if-met-ne0.false (sym (j.joined_in.ensures L p st one sa sb) ∙ c.if-joined_in.false)

@@ -1,0 +1,84 @@
+use mathlib.Core.Path.{◌≡◌, refl, ap, ◌∙◌}
+use Prim.Native.Nat.{◌≤◌, ◌-◌}
+use native.Mathlib.Omega.{arith}
+use borrow.Author.Rules.{rules}
+use lib.ListN.{length}
+use Rattle.sets.specs.Value.{num}
+use Rattle.sets.proofs.Tables.{rows_length}
+use Rattle.percolation.specs.Links.{Link}
+use Rattle.sheet.specs.Sheet.{parts, links_of}
+use Rattle.slots.proofs.Lengths.{room_within}
+use Rattle.meeting.proofs.Calls.{meet_short}
+use Rattle.meeting_maximal.proofs.Levels.{Counted, counted_none, level_past, level_short, level_next, levels_never, levels_met}
+use Rattle.meeting_maximal.proofs.over_levels.Goals as goal
+
+pub loop-n-init : goal.loop-n-init
+loop-n-init c = (omega arith, refl, counted_none _ _ _ _ _ _ _ _ refl refl)
+
+pub link-l-requires : goal.link-l-requires
+link-l-requires c = let a = c in omega (arith, c.loop-n-test.true, a.requires.2)
+
+pub overflow_cast-w : goal.overflow_cast-w
+overflow_cast-w c = omega (arith, c.link-l.ensures.1.1.1)
+
+pub heavy-end-requires : goal.heavy-end-requires
+heavy-end-requires c = let a = c in (a.requires.0, a.requires.2)
+
+pub take_level-found-requires : goal.take_level-found-requires
+take_level-found-requires c =
+    let l = c in
+    let a = l in
+    let e = room_within a.args.entries.now in
+    let r = l.room-room.ensures in
+    (a.requires.0, a.requires.1, omega (arith, c.heavy-end.ensures.1, a.requires.2), omega (arith, r, e.1), omega (arith, r, e.0, a.requires.4, rows_length l.loop-n.sets a.args.sets.now l.loop-n.invariant.1))
+
+pub shape_of-sets-then-room-found : goal.shape_of-sets-then-room-found
+shape_of-sets-then-room-found c = let t = c in t.take_level-found.auto.1.1.1.1.0 ∙ t.loop-n.invariant.1
+
+pub returns-then-room-found : goal.returns-then-room-found
+returns-then-room-found c =
+    let t = c in
+    let h = t in
+    let k = h in
+    let l = k in
+    let a = l in
+    meet_short _ _ _ (level_short _ a.requires.0 l.loop-n.n _ (omega (arith, k.loop-n-test.true, a.requires.2)) (ap (λ (x : Link). x.weight) k.link-l.ensures.0) h.heavy-end.result (omega (arith, h.heavy-end.ensures.1, a.requires.2)) h.heavy-end.ensures.0 _ _ _ l.room-room.ensures _ _ t.take_level-found.ensures c.if-room-found.true) refl
+
+pub loop-n-smaller : goal.loop-n-smaller
+loop-n-smaller c =
+    let h = c in
+    let k = h in
+    let l = k in
+    let a = l in
+    omega (arith, h.heavy-end.ensures.1, level_past _ a.requires.0 l.loop-n.n _ (omega (arith, k.loop-n-test.true, a.requires.2)) (ap (λ (x : Link). x.weight) k.link-l.ensures.0) h.heavy-end.result (omega (arith, h.heavy-end.ensures.1, a.requires.2)) h.heavy-end.ensures.0)
+
+pub loop-n-preserved : goal.loop-n-preserved
+loop-n-preserved c =
+    let f = c in
+    let t = f in
+    let h = t in
+    let k = h in
+    let l = k in
+    let a = l in (
+      h.heavy-end.ensures.1,
+      f.first_met-met.auto.0 ∙ t.take_level-found.auto.1.1.1.1.0 ∙ l.loop-n.invariant.1,
+      level_next _ a.requires.0 l.loop-n.n _ (omega (arith, k.loop-n-test.true, a.requires.2)) (ap (λ (x : Link). x.weight) k.link-l.ensures.0) h.heavy-end.result (omega (arith, h.heavy-end.ensures.1, a.requires.2)) h.heavy-end.ensures.0 _ _ _ l.room-room.ensures _ _ t.take_level-found.ensures f.if-room-found.false _ _ (omega (arith, a.requires.3)) a.requires.5 a.requires.6 _ _ f.first_met-met.ensures l.loop-n.invariant.2,
+    )
+
+pub shape_of-sets-then-met-eq0 : goal.shape_of-sets-then-met-eq0
+shape_of-sets-then-met-eq0 c = c.loop-n.invariant.1
+
+pub returns-then-met-eq0 : goal.returns-then-met-eq0
+returns-then-met-eq0 c =
+    let l = c in
+    let a = l in
+    levels_never _ _ _ _ _ _ l.room-room.ensures l.loop-n.n _ (omega (arith, c.loop-n-test.false, l.loop-n.invariant.0, a.requires.2)) l.loop-n.invariant.2 c.if-met-eq0.true
+
+pub shape_of-sets : goal.shape_of-sets
+shape_of-sets c = c.loop-n.invariant.1
+
+pub returns : goal.returns
+returns c =
+    let l = c in
+    let a = l in
+    levels_met _ _ _ _ _ _ l.room-room.ensures l.loop-n.n _ (omega (arith, c.loop-n-test.false, l.loop-n.invariant.0, a.requires.2)) l.loop-n.invariant.2 c.if-met-eq0.false

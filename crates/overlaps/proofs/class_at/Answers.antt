@@ -1,0 +1,32 @@
+use mathlib.Core.Path.{◌≡◌, refl, ◌∙◌}
+use Prim.Native.Nat.{◌≤◌, ◌<◌, ◌-◌}
+use native.Mathlib.Omega.{arith}
+use borrow.Author.Rules.{rules}
+use lib.ListN.{length}
+use Rattle.sets.specs.Value.{num}
+use Rattle.overlaps.specs.Model.{grown, grown_from, class_at}
+use Rattle.overlaps.proofs.Steps.{grow_first, grow_next, grow_done}
+use Rattle.overlaps.proofs.class_at.Goals as goal
+
+pub loop-f-init : goal.loop-f-init
+loop-f-init c =
+    (omega arith, omega arith, omega arith, refl, grow_first _ _ _ _ _ _ c.at-first.ensures c.lows-small.ensures)
+
+pub loop-f-preserved : goal.loop-f-preserved
+loop-f-preserved c =
+    let b = c in
+    let s = b in
+    let l = s.loop-f in (
+      omega arith,
+      omega arith,
+      omega arith,
+      b.sweep-e.auto.0 ∙ l.invariant.3,
+      grow_next _ _ _ _ _ _ _ l.invariant.4 (omega arith) (omega arith) _ _ _ _ s.at-s.ensures b.lows.ensures
+          b.lesser-small.ensures b.union-whole.ensures _ _ b.sweep-e.ensures.0,
+    )
+
+pub shape_of-table : goal.shape_of-table
+shape_of-table c = c.loop-f.invariant.3
+
+pub returns : goal.returns
+returns c = let l = c.loop-f in (grow_done _ _ _ _ _ _ _ l.invariant.4 (omega arith), (omega arith, omega arith))

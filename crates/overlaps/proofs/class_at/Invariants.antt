@@ -1,0 +1,18 @@
+use mathlib.Core.Path.{◌≡◌, refl, ◌∙◌}
+use Prim.Native.Nat.{◌≤◌, ◌<◌, ◌-◌}
+use native.Mathlib.Omega.{arith}
+use borrow.Author.Rules.{rules}
+use lib.ListN.{length}
+use Rattle.sets.specs.Value.{num}
+use Rattle.overlaps.specs.Model.{grown, grown_from, class_at}
+use Rattle.overlaps.proofs.Steps.{grow_first, grow_next, grow_done}
+use Rattle.overlaps.proofs.class_at.Given as goal
+
+-- The invariant: the frontier that is left gives the class. Assumes nothing.
+abbrev pub invariant-loop-f : goal.invariant-loop-f
+invariant-loop-f l =
+    (l.i < l.e) × (l.f ≤ l.e) × (l.e ≤ l.n) × (length l.table ≡ length l.initial.table)
+    × (class_at l.k l.n l.initial.table l.i ≡ grown_from (l.n - l.f) l.k l.n (grown l.table l.e (num l.small) (num l.whole)) l.f)
+
+abbrev pub decreases-loop-f : goal.decreases-loop-f
+decreases-loop-f l = l.n - l.f

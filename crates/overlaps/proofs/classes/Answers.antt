@@ -1,0 +1,37 @@
+use mathlib.Core.Path.{◌≡◌, refl, ◌∙◌}
+use Prim.Native.Nat.{◌≤◌, ◌-◌}
+use native.Mathlib.Omega.{arith}
+use borrow.Author.Rules.{rules}
+use lib.ListN.{length}
+use Rattle.overlaps.specs.Model.{classed, classed_from, classed_all}
+use Rattle.overlaps.proofs.Steps.{class_first, class_next, class_done}
+use Rattle.overlaps.proofs.classes.Goals as goal
+
+pub loop-i-init : goal.loop-i-init
+loop-i-init c = (omega arith, omega arith, refl, refl, refl, class_first _ _ _ _ _)
+
+pub loop-i-preserved : goal.loop-i-preserved
+loop-i-preserved c =
+    let b = c in
+    let p = b in
+    let s = p in
+    let l = s.loop-i in (
+      omega arith,
+      omega arith,
+      s.class_at-class.auto.0 ∙ l.invariant.2,
+      p.put.auto.0 ∙ l.invariant.3,
+      b.put-in-loop-i.auto.0 ∙ l.invariant.4,
+      class_next _ _ _ _ _ _ _ l.invariant.5 (omega arith) (omega arith) _ _ _ _ _ _ s.class_at-class.ensures.0 p.put.ensures b.put-in-loop-i.ensures,
+    )
+
+pub shape_of-sets : goal.shape_of-sets
+shape_of-sets c = c.loop-i.invariant.2
+
+pub shape_of-smallest : goal.shape_of-smallest
+shape_of-smallest c = c.loop-i.invariant.3
+
+pub shape_of-unions : goal.shape_of-unions
+shape_of-unions c = c.loop-i.invariant.4
+
+pub returns : goal.returns
+returns c = let l = c.loop-i in class_done _ _ _ _ _ _ _ l.invariant.5 (omega arith)

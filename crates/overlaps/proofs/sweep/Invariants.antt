@@ -1,0 +1,21 @@
+use mathlib.Core.Path.{◌≡◌, refl, ap, ◌∙◌}
+use mathlib.Core.Logic.{⊎_elim}
+use Prim.Native.Nat.{◌≤◌, ◌-◌}
+use native.Mathlib.Omega.{arith}
+use borrow.Author.Rules.{rules}
+use lib.ListN.{length}
+use Rattle.sets.specs.Value.{width, num}
+use Rattle.sets.proofs.Held.{held}
+use Rattle.sets.proofs.Laws.{size_le}
+use Rattle.overlaps.specs.Model.{swept_from}
+use Rattle.overlaps.proofs.Steps.{sweep_near, sweep_far, sweep_done}
+use Rattle.overlaps.proofs.sweep.Given as goal
+
+-- The invariant: sweeping the rows that are left gives what sweeping all of them gives. Assumes nothing.
+abbrev pub invariant-loop-j : goal.invariant-loop-j
+invariant-loop-j l =
+    (l.end ≤ l.e) × (l.e ≤ l.j) × (l.j ≤ l.n) × (length l.table ≡ length l.initial.table)
+    × (swept_from (l.n - l.end) l.k (num l.s) l.initial.table l.end l.end ≡ swept_from (l.n - l.j) l.k (num l.s) l.table l.e l.j)
+
+abbrev pub decreases-loop-j : goal.decreases-loop-j
+decreases-loop-j l = l.n - l.j

@@ -1,0 +1,24 @@
+use native.Mathlib.Omega.{arith}
+use lib.ListN.{length-set}
+use Rattle.page.proofs.Columns.{six_put}
+use borrow.Author.Rules.{rules}
+use Rattle.page.proofs.put_number.Goals as goal
+
+pub bounds-out-1 : goal.bounds-out-1
+bounds-out-1 c = simp length-set (omega arith)
+
+pub bounds-out-2 : goal.bounds-out-2
+bounds-out-2 c = simp length-set (omega arith)
+
+pub bounds-out-3 : goal.bounds-out-3
+bounds-out-3 c = simp length-set (omega arith)
+
+pub bounds-out-4 : goal.bounds-out-4
+bounds-out-4 c = simp length-set (omega arith)
+
+pub returns : goal.returns
+returns c =
+    let before5 = c in
+    let before7 = c in
+    six_put before7.args.out.now before7.args.n _ _ _ _ _ _ before5.column.ensures c.column-2.ensures
+    c.column-3.ensures c.column-4.ensures c.column-5.ensures c.column-6.ensures

@@ -1,0 +1,16 @@
+use mathlib.Core.Path.{◌≡◌, refl, sym, ◌∙◌}
+use mathlib.Core.Bool.{false}
+use Prim.Native.Nat.{ℕ, ◌≤◌, ◌<◌, ◌-◌, ◌*◌}
+use native.Mathlib.Omega.{arith}
+use borrow.Author.Rules.{rules}
+use Rattle.sets.proofs.Tests.{never, one_more}
+use Rattle.part_names.specs.Names.{eight_at}
+use Rattle.part_names.proofs.Form.{repeated_none, repeated_at}
+use Rattle.part_names.proofs.is_repeated.Given as goal
+
+-- The invariant: none of the names before i is name q. Assumes nothing.
+abbrev pub invariant-loop-i : goal.invariant-loop-i
+invariant-loop-i l = (l.i ≤ l.q) × ((r : ℕ) → r < l.i → eight_at l.names (8 * r) ≡ eight_at l.names (8 * l.q) → ⊥)
+
+abbrev pub decreases-loop-i : goal.decreases-loop-i
+decreases-loop-i l = l.q - l.i

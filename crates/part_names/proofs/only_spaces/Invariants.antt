@@ -1,0 +1,16 @@
+use mathlib.Core.Path.{◌≡◌, refl, sym, ◌∙◌}
+use native.Mathlib.Omega.{arith}
+use borrow.Author.Tests.{eq-eqb, ne_eqb}
+use Prim.Native.Nat.{◌≤◌, ◌-◌}
+use lib.ListN.{length, drop}
+use Rattle.part_names.specs.Names.{spaces}
+use Rattle.sets.proofs.Tests.{and_stop, and_go}
+use Rattle.part_names.proofs.Form.{spaces_at, spaces_end}
+use borrow.Author.Rules.{rules}
+use Rattle.part_names.proofs.only_spaces.Given as goal
+
+abbrev pub invariant-loop-i : goal.invariant-loop-i
+invariant-loop-i l = (l.i ≤ length l.n) × (spaces (drop l.at l.n) ≡ spaces (drop l.i l.n))
+
+abbrev pub decreases-loop-i : goal.decreases-loop-i
+decreases-loop-i l = length l.n - l.i

@@ -1,0 +1,39 @@
+use borrow.Author.Rules.{rules}
+use mathlib.Core.Path.{refl, sym, ◌∙◌, subst}
+use Prim.Native.Nat.{ℕ}
+use borrow.Author.Tests.{not-true, not-false}
+use Rattle.sets.specs.Value.{num}
+use Rattle.row_counts.proofs.Peeling.{lowest_answer, part_below, fewer, RowLeft, row_done, rest_fits, rest_room, row_more}
+use Rattle.row_counts.proofs.count_row.Goals as goal
+
+pub loop-rest-init : goal.loop-rest-init
+loop-rest-init c =
+    let a = c.args in
+    let p = c.requires in
+    subst (λ (s : ℕ). RowLeft a.counts.now a.row a.counts.now s) (sym c.from_word-rest.ensures) (record { left = refl; places = p.0; fits = c.ranges.row.fits; room = p.1 })
+
+pub count_with-requires : goal.count_with-requires
+count_with-requires c =
+    let l = c.loop-rest in
+    let z = sym c.is_empty.ensures ∙ c.loop-rest-test.true in
+    let e = lowest_answer _ _ _ z c.lowest-q.ensures in
+    let g = c.without-rest.ensures in
+    (l.invariant.places, part_below _ _ z e l.invariant.fits, rest_fits _ _ _ _ l.invariant _ _ z e g, rest_room _ _ _ _ l.invariant _ _ z e g)
+
+pub loop-rest-smaller : goal.loop-rest-smaller
+loop-rest-smaller c =
+    let z = sym c.is_empty.ensures ∙ c.loop-rest-test.true in
+    let e = lowest_answer _ _ _ z c.lowest-q.ensures in
+    fewer _ _ z e _ c.without-rest.ensures
+
+pub loop-rest-preserved : goal.loop-rest-preserved
+loop-rest-preserved c =
+    let l = c.loop-rest in
+    let z = sym c.is_empty.ensures ∙ c.loop-rest-test.true in
+    let e = lowest_answer _ _ _ z c.lowest-q.ensures in
+    row_more _ _ _ _ l.invariant _ _ z e c.without-rest.ensures _ c.count_with.ensures
+
+pub returns : goal.returns
+returns c =
+    let l = c.loop-rest in
+    row_done _ _ _ _ l.invariant (sym c.is_empty.ensures ∙ c.loop-rest-test.false)

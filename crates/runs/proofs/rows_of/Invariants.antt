@@ -1,0 +1,20 @@
+use mathlib.Core.Path.{◌≡◌, sym, ap, ◌∙◌}
+use native.Mathlib.Omega.{arith}
+use borrow.Author.Rules.{rules}
+use mathlib.Core.List.{List}
+use Prim.Native.Nat.{ℕ, ◌≤◌, ◌-◌}
+use lib.ListN.{length, take, drop}
+use Rattle.sets.specs.Value.{no_rows}
+use Rattle.sets.proofs.Tables.{length_none}
+use Rattle.sheet.specs.Sheet.{links_of}
+use Rattle.runs.specs.Model.{rows_with}
+use Rattle.runs.proofs.InSheet.{sheet_given}
+use Rattle.runs.proofs.LinkList.{rows_next, rows_end}
+use Rattle.runs.proofs.rows_of.Given as goal
+
+abbrev pub invariant-loop-j : goal.invariant-loop-j
+invariant-loop-j l =
+    (l.j ≤ l.n) × (rows_with l.rows (drop l.j (take l.n (links_of l.sheet))) ≡ rows_with no_rows (take l.n (links_of l.sheet))) × (length l.rows ≡ length no_rows)
+
+abbrev pub decreases-loop-j : goal.decreases-loop-j
+decreases-loop-j l = l.n - l.j

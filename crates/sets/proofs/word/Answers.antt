@@ -1,0 +1,7 @@
+use borrow.Author.Rules.{rules}
+use Rattle.sets.specs.Value.{num}
+use Rattle.sets.proofs.word.Goals as goal
+
+pub returns : goal.returns
+unfolding num
+returns c = search rules

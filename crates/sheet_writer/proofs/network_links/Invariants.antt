@@ -1,0 +1,20 @@
+use mathlib.Core.Path.{◌≡◌, sym, ap, ap₂, ◌∙◌, subst⁻¹}
+use native.Mathlib.Omega.{arith}
+use borrow.Author.Rules.{rules}
+use mathlib.Core.List.{List}
+use Prim.Native.Nat.{ℕ, ◌+◌, ◌≤◌, ◌-◌}
+use lib.ListN.{length}
+use Rattle.sets.proofs.Tables.{length_none}
+use Rattle.answers.specs.Verdict.{in_order}
+use Rattle.sets.specs.Value.{width, no_rows}
+use Rattle.percolation.specs.Links.{link}
+use Rattle.sheet.specs.Network.{network}
+use Rattle.sheet_writer.specs.Writing.{parts_of, link_in, check_link_in}
+use Rattle.sheet.proofs.InTurn.{Passed, passed_none, passed_stop, passed_more}
+use Rattle.sheet_writer.proofs.network_links.Given as goal
+
+abbrev pub invariant-loop-j : goal.invariant-loop-j
+invariant-loop-j l = (l.j ≤ length l.lower) × Passed (link_in (network l.names l.lower l.higher l.weights)) (λ i. 0) (parts_of (network l.names l.lower l.higher l.weights)) l.j l.seen l.before × (length l.seen ≡ length no_rows)
+
+abbrev pub decreases-loop-j : goal.decreases-loop-j
+decreases-loop-j l = length l.lower - l.j

@@ -1,0 +1,18 @@
+use mathlib.Core.Path.{◌≡◌, refl, ap, ap₂, ◌∙◌}
+use native.Mathlib.Omega.{arith}
+use borrow.Author.Rules.{rules}
+use mathlib.Core.List.{[], ◌++◌}
+use Prim.Native.Nat.{ℕ, ◌*◌, ◌≤◌, ◌-◌}
+use lib.ListN.{length, drop}
+use lib.Seq.{sets}
+use Rattle.percolation.specs.Links.{Link, link}
+use Rattle.sheet.specs.Network.{network}
+use Rattle.sheet_writer.specs.Writing.{link_in, link_bytes}
+use Rattle.sheet_writer.proofs.Written.{links_bytes, stored_none, stored_more}
+use Rattle.sheet_writer.proofs.put_links.Given as goal
+
+abbrev pub invariant-loop-j : goal.invariant-loop-j
+invariant-loop-j l = (l.j ≤ l.count) × (l.count ≡ length l.lower) × (l.out ≡ links_bytes (link_in (network [] l.lower l.higher l.weights)) l.j ++ drop (4 * l.j) l.initial.out) × (length l.out ≡ length l.initial.out)
+
+abbrev pub decreases-loop-j : goal.decreases-loop-j
+decreases-loop-j l = l.count - l.j

@@ -1,0 +1,17 @@
+use Prim.Native.Nat.{◌≤◌, ◌-◌}
+use mathlib.Core.Path.{◌≡◌, sym, ◌∙◌}
+use native.Mathlib.Nat.{sub-zero}
+use native.Mathlib.Omega.{arith}
+use borrow.Author.Rules.{rules}
+use borrow.Author.Tests.{eqb-true, eqb-false}
+use Rattle.sets.specs.Value.{num}
+use Rattle.slots.specs.Model.{find_from, find}
+use Rattle.slots.proofs.Finding.{find_hit, find_miss, find_end}
+use Rattle.slots.proofs.find.Given as goal
+
+-- The invariant: what is left to search finds what the whole finds. Assumes nothing.
+abbrev pub invariant-loop-slot : goal.invariant-loop-slot
+invariant-loop-slot l = (l.slot ≤ l.used) × (find l.sets l.used (num l.s) ≡ find_from (l.used - l.slot) l.sets l.slot (num l.s))
+
+abbrev pub decreases-loop-slot : goal.decreases-loop-slot
+decreases-loop-slot l = l.used - l.slot

@@ -1,0 +1,14 @@
+use borrow.Author.Tests.{not-true, not-false}
+use Rattle.states.proofs.Checking.{state_11, state_12, state_0}
+use mathlib.Core.Path.{sym, ◌∙◌}
+use borrow.Author.Rules.{rules}
+use Rattle.states.proofs.state_number.Goals as goal
+
+pub returns-then-not-level : goal.returns-then-not-level
+returns-then-not-level c = state_11 _ _ _ _ _ (sym c.level.ensures ∙ c.if-not-level.true)
+
+pub returns-then-not-good_state : goal.returns-then-not-good_state
+returns-then-not-good_state c = state_12 _ _ _ _ _ (sym c.level.ensures ∙ c.if-not-level.false) (sym c.good_state.ensures ∙ c.if-not-good_state.true)
+
+pub returns : goal.returns
+returns c = state_0 _ _ _ _ _ (sym c.level.ensures ∙ c.if-not-level.false) (sym c.good_state.ensures ∙ c.if-not-good_state.false)

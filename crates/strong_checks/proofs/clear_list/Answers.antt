@@ -1,0 +1,6 @@
+use borrow.Author.Rules.{rules}
+use Rattle.strong_checks.proofs.Calls.{cleared_both}
+use Rattle.strong_checks.proofs.clear_list.Goals as goal
+
+pub returns : goal.returns
+returns c = cleared_both _ c.clear.ensures c.clear_products.ensures

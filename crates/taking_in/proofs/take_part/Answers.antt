@@ -1,0 +1,9 @@
+use Rattle.slots.proofs.Steps.{took_part_lem}
+use borrow.Author.Rules.{rules}
+use Rattle.taking_in.proofs.take_part.Goals as goal
+
+pub returns : goal.returns
+returns c =
+    let t = c in
+    let f = t in
+    (took_part_lem _ _ _ _ _ _ _ f.without-s.ensures f.find-i.ensures t.take_slot.ensures.0, t.take_slot.ensures.1)

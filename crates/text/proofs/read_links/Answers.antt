@@ -1,0 +1,51 @@
+use Rattle.text.proofs.Pass2.{Sizes, sizes_then, LinksSoFar, links_none, links_stop, links_more, links_refused, links_fine}
+use Rattle.text.specs.Model.{Held}
+use Rattle.words.proofs.Pieces.{line_end_fits}
+use Rattle.link_order.specs.Order.{link_lists}
+use lib.ListN.{length}
+use lib.Dec.{eqb}
+use native.Mathlib.Omega.{arith}
+use Prim.Native.Nat.{ℕ, ◌-◌}
+use borrow.Author.Rules.{rules}
+use mathlib.Core.List.{List}
+use mathlib.Core.Path.{◌≡◌, refl, sym, ap, ◌∙◌}
+use Rattle.sets.specs.Value.{no_rows}
+use Rattle.sets.proofs.Tables.{length_none}
+use Rattle.text.proofs.read_links.Goals as goal
+
+pub loop-at-init : goal.loop-at-init
+loop-at-init c = (ap length c.no_rows-seen.ensures, record { lower = refl; higher = refl; weights = refl }, λ N h l. links_none _ N _ _ c.no_rows-seen.ensures)
+
+pub slice_bounds-link_line-end-in-loop-at : goal.slice_bounds-link_line-end-in-loop-at
+slice_bounds-link_line-end-in-loop-at c = sym (c.loop-at.invariant.0 ∙ length_none)
+
+pub link_line-requires : goal.link_line-requires
+link_line-requires c = c.requires
+
+pub returns-in-Fault : goal.returns-in-Fault
+returns-in-Fault c = λ N h l. let s = c.loop-at in
+    let f = s.invariant.2 N h l in
+    links_refused _ N _ _ _ _ (links_stop c.args.text.now N _ (link_lists s.lower s.higher s.weights) _ s.seen _ s.m s.at c.line_end-end.result c.link_line.result f s.invariant.1 c.loop-at-test.true c.line_end-end.ensures (c.link_line.ensures N f.L h l f.near f.count) _ _ c.n-1.given.1)
+
+pub overflow_add-at : goal.overflow_add-at
+overflow_add-at c = omega (arith, line_end_fits (eqb 10) c.args.text.now c.loop-at.at (omega arith))
+
+pub loop-at-preserved : goal.loop-at-preserved
+loop-at-preserved c = let s = c.loop-at in
+    let k = c.link_line.auto in (
+      k.1.1.1.1.0 ∙ s.invariant.0,
+      sizes_then _ _ _ (record { lower = k.1.1.1.1.1.0; higher = k.1.1.1.1.1.1.0; weights = k.1.1.1.1.1.1.1.0 }) s.invariant.1,
+      λ N h l. let f = s.invariant.2 N h l in links_more c.args.text.now N _ (link_lists s.lower s.higher s.weights) _ s.seen _ s.m s.at c.line_end-end.result c.link_line.result f s.invariant.1 c.loop-at-test.true c.line_end-end.ensures (c.link_line.ensures N f.L h l f.near f.count) _ c.n-in-Count-1.given.1,
+    )
+
+pub shape_of-lower : goal.shape_of-lower
+shape_of-lower c = c.loop-at.invariant.1.lower
+
+pub shape_of-higher : goal.shape_of-higher
+shape_of-higher c = c.loop-at.invariant.1.higher
+
+pub shape_of-weights : goal.shape_of-weights
+shape_of-weights c = c.loop-at.invariant.1.weights
+
+pub returns : goal.returns
+returns c = λ N h l. links_fine _ N _ _ _ _ _ (c.loop-at.invariant.2 N h l) c.loop-at-test.false

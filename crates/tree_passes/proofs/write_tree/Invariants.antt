@@ -1,0 +1,25 @@
+use Rattle.tree_passes.proofs.SheetPasses.{passes_two, next_level, writing_room, writing_first, writing_bound, writing_last}
+use Rattle.tree_passes.proofs.TreeWritten.{Writing, writing_step}
+use Rattle.runs.proofs.Admitted.{call_sheet}
+use Rattle.slots.proofs.Lengths.{room_within}
+use Rattle.slots.specs.Tables.{tables, room}
+use Rattle.sheet.specs.Sheet.{parts, links_of}
+use Rattle.percolation.specs.Links.{Link}
+use Rattle.sets.proofs.Tables.{length_none}
+use Rattle.sets.specs.Value.{no_rows}
+use lib.ListN.{length}
+use Prim.Native.Nat.{◌≤◌, ◌<◌, ◌-◌, ◌^◌}
+use mathlib.Core.Path.{◌≡◌, refl, sym, ap, ◌∙◌}
+use borrow.Author.Rules.{rules}
+use native.Mathlib.Omega.{arith}
+use Rattle.tree_passes.proofs.write_tree.Given as goal
+
+-- The invariant: the output holds the lines of the levels of the links below `from`. Assumes nothing.
+abbrev pub invariant-loop-from : goal.invariant-loop-from
+invariant-loop-from l =
+    (l.from ≤ l.m) × (l.used ≤ room l.entries) × (length l.rows ≡ length no_rows)
+    × (length l.sets ≡ length l.initial.sets) × (length l.entries ≡ length l.initial.entries) × (length l.smallest ≡ length l.initial.smallest) × (length l.unions ≡ length l.initial.unions) × (length l.out ≡ length l.initial.out)
+    × Writing (links_of l.sheet) (parts l.sheet) l.k l.from l.rows (tables l.sets l.entries l.smallest l.unions l.used) l.initial.out l.n l.out
+
+abbrev pub decreases-loop-from : goal.decreases-loop-from
+decreases-loop-from l = l.m - l.from

@@ -1,0 +1,15 @@
+use Prim.Native.Nat.{◌≤◌}
+use native.Mathlib.Omega.{arith}
+use lib.ListN.{drop}
+use mathlib.Core.Path.{sym, ◌∙◌}
+use Rattle.sheet.specs.Sheet.{links_of}
+use Rattle.weights.specs.Model.{Weighs}
+use Rattle.weights.proofs.Filling.{from_last, from_next, all_weighs, ends_narrow}
+use Rattle.weights.proofs.fill.Given as goal
+
+-- The invariant: the table has the weights of the links from j on. Assumes nothing.
+abbrev pub invariant-loop-j : goal.invariant-loop-j
+invariant-loop-j l = (l.j ≤ l.m) × Weighs (drop l.j (links_of l.sheet)) l.weights
+
+abbrev pub decreases-loop-j : goal.decreases-loop-j
+decreases-loop-j l = l.j

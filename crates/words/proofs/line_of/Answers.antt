@@ -1,0 +1,22 @@
+use mathlib.Core.Logic.{⊎_elim}
+use mathlib.Core.Path.{sym, ap, ◌∙◌, ◌≡◌}
+use native.Mathlib.Omega.{arith}
+use borrow.Author.Rules.{rules}
+use Prim.Native.Nat.{ℕ, ◌+◌, ◌≤◌, ◌-◌}
+use lib.ListN.{length}
+use Rattle.words.specs.Lines.{line_of}
+use Rattle.words.proofs.Lines.{line_one, line_more, line_same, line_past}
+use Rattle.words.proofs.line_of.Goals as goal
+
+pub loop-i-init : goal.loop-i-init
+loop-i-init c = (omega arith, omega arith, omega arith, sym (line_one _))
+
+pub returns-then-text-i : goal.returns-then-text-i
+returns-then-text-i c = c.loop-i.invariant.3 ∙ line_past _ _ _ c.if-text-i.true (omega arith)
+
+pub loop-i-preserved : goal.loop-i-preserved
+loop-i-preserved c = ⊎_elim (λ w. (omega arith, omega arith, omega arith, w.1 ∙ ap (λ (k : ℕ). k + 1) c.loop-i.invariant.3 ∙ sym (line_more c.args.text.now c.loop-i.i (omega arith) w.0.taken)))
+    (λ w. (omega arith, omega arith, omega arith, w.1 ∙ c.loop-i.invariant.3 ∙ sym (line_same c.args.text.now c.loop-i.i (omega arith) w.0.left))) c.if-text-i-eq10.branch
+
+pub returns : goal.returns
+returns c = c.loop-i.invariant.3 ∙ ap (line_of _) (omega arith)

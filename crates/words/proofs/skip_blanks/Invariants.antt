@@ -1,0 +1,15 @@
+use mathlib.Core.Bool.{not}
+use mathlib.Core.Path.{sym, refl, ap, ◌∙◌, ◌≡◌}
+use native.Mathlib.Omega.{arith}
+use borrow.Author.Rules.{rules}
+use Prim.Native.Nat.{◌≤◌, ◌-◌}
+use lib.ListN.{length}
+use Rattle.words.proofs.Pieces.{stop, scan_stop, scan_on, scan_end}
+use Rattle.words.proofs.WordLaws.{printed}
+use Rattle.words.proofs.skip_blanks.Given as goal
+
+abbrev pub invariant-loop-i : goal.invariant-loop-i
+invariant-loop-i l = (l.at ≤ l.i) × (l.i ≤ length l.line) × (stop printed l.line l.i ≡ stop printed l.line l.at)
+
+abbrev pub decreases-loop-i : goal.decreases-loop-i
+decreases-loop-i l = length l.line - l.i

@@ -1,0 +1,15 @@
+use mathlib.Core.Path.{sym, ap, ◌∙◌, ◌≡◌}
+use native.Mathlib.Omega.{arith}
+use native.Mathlib.Numerals.{add-one}
+use borrow.Author.Rules.{rules}
+use Prim.Native.Nat.{suc, ◌<◌, ◌≤◌, ◌-◌}
+use lib.ListN.{length}
+use Rattle.words.specs.Lines.{blank}
+use Rattle.words.proofs.Pieces.{stop, scan_stop, scan_on, scan_end}
+use Rattle.words.proofs.word_end.Given as goal
+
+abbrev pub invariant-loop-i : goal.invariant-loop-i
+invariant-loop-i l = (l.at < l.i) × (l.i ≤ length l.line) × (stop blank l.line l.i ≡ stop blank l.line (suc l.at))
+
+abbrev pub decreases-loop-i : goal.decreases-loop-i
+decreases-loop-i l = length l.line - l.i
