@@ -2,15 +2,17 @@
 
 // What a program for people says and reads: words and numbers on standard output, complaints and refusals on standard error, files into lent space.
 // No contract can say which bytes are written or read: what is read is proved to lie within the space lent for it, and stored outputs say the rest.
-mod find;
 mod load;
 mod refusal;
 mod say;
+mod scan;
 
-pub use find::find;
 pub use load::{last_file, read, read_on};
 pub use refusal::{few_slots, refused, tell, tell_long};
-pub use say::{counted, end, error, error_field, error_of, field, number, put, text};
+pub use say::{
+    STDERR, STDIN, STDOUT, counted, end, error, error_field, error_of, field, number, put, text,
+};
+pub use scan::find;
 
 // How many bytes were read, or that reading failed, which was told.
 #[derive(Clone, Copy)]

@@ -1,6 +1,5 @@
 // A refusal in words: its number, its place, the part or the link that the place belongs to, and what is wrong.
-use crate::say::{error, error_field, put};
-use libc::STDERR_FILENO;
+use crate::say::{STDERR, error, error_field, put};
 
 // Parts are counted from 0, as they are in the sheet.
 fn part_at(s: &[u8], place: usize) {
@@ -58,7 +57,7 @@ fn of_call(number: u8, slots: usize) {
         12 => error(b"the state is none that a step has left"),
         13 => error(b"each of the two sets must have k parts, each two of them linked"),
         14 => error(b"there is no part of this number"),
-        15 => few_slots(STDERR_FILENO, slots),
+        15 => few_slots(STDERR, slots),
         16 => error(b"the answer is longer than the space for it"),
         _ => {}
     }

@@ -1,5 +1,11 @@
 // Words, numbers and lines: answers on standard output, complaints on standard error.
-use libc::{STDERR_FILENO, STDOUT_FILENO};
+
+// The numbers that the system gives to a program's three streams.
+pub const STDIN: i32 = 0;
+
+pub const STDOUT: i32 = 1;
+
+pub const STDERR: i32 = 2;
 
 // Words that are an answer in one place and a complaint in another.
 pub fn put(fd: i32, t: &[u8]) {
@@ -7,11 +13,11 @@ pub fn put(fd: i32, t: &[u8]) {
 }
 
 pub fn text(t: &[u8]) {
-    put(STDOUT_FILENO, t);
+    put(STDOUT, t);
 }
 
 pub fn number(n: usize) {
-    io::print_decimal(STDOUT_FILENO, n as u64);
+    io::print_decimal(STDOUT, n as u64);
 }
 
 // A word, then a number.
@@ -31,7 +37,7 @@ pub fn counted(n: usize, word: &[u8]) {
 
 // Ends a line. Where standard output takes no more it says so, and answers false.
 pub fn end() -> bool {
-    if io::write_all(STDOUT_FILENO, b"\n") {
+    if io::write_all(STDOUT, b"\n") {
         return true;
     }
     os::fail(b"standard output");
@@ -39,12 +45,12 @@ pub fn end() -> bool {
 }
 
 pub fn error(t: &[u8]) {
-    put(STDERR_FILENO, t);
+    put(STDERR, t);
 }
 
 pub fn error_field(word: &[u8], n: usize) {
     error(word);
-    io::print_decimal(STDERR_FILENO, n as u64);
+    io::print_decimal(STDERR, n as u64);
 }
 
 // One line that ends in a word which the user gave.

@@ -1,8 +1,7 @@
 // `pack`: a text from standard input as a sheet on standard output.
 use crate::limits::{LARGEST_SHEET, LONGEST_TEXT, TEXT_SPACE};
 use answers::Answer;
-use console::{Loaded, error, error_field, read, refused};
-use libc::{STDERR_FILENO, STDIN_FILENO, STDOUT_FILENO};
+use console::{Loaded, STDERR, STDIN, STDOUT, error, error_field, read, refused};
 use report::{LINKS, NAMES, line_words, tell};
 use text::Text;
 
@@ -11,7 +10,7 @@ fn tell_fault(number: u8, place: usize, line: usize) {
     refused(number, place);
     error_field(b"line ", line);
     error(b": ");
-    line_words(STDERR_FILENO, number);
+    line_words(STDERR, number);
     error(b"\n");
 }
 
@@ -19,7 +18,7 @@ pub fn put_out(out: &[u8], n: usize) {
     if out.len() < n {
         return;
     }
-    if !io::write_all(STDOUT_FILENO, &out[0..n]) {
+    if !io::write_all(STDOUT, &out[0..n]) {
         os::fail(b"standard output");
     }
 }
@@ -63,7 +62,7 @@ fn pack_text(t: &[u8]) {
 
 // Reads into buf, which has a byte more than a text may have.
 fn pack_into(buf: &mut [u8]) {
-    let Loaded::Bytes(n) = read(STDIN_FILENO, b"standard input", buf) else {
+    let Loaded::Bytes(n) = read(STDIN, b"standard input", buf) else {
         return;
     };
     if LONGEST_TEXT < n {

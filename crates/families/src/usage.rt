@@ -1,5 +1,5 @@
 // How the program is called.
-use libc::{STDERR_FILENO, STDOUT_FILENO};
+use console::{STDERR, STDOUT};
 
 fn lines(fd: i32) {
     io::write_all(fd, b"usage:\n");
@@ -19,13 +19,13 @@ fn lines(fd: i32) {
 }
 
 pub fn help() {
-    lines(STDOUT_FILENO);
+    lines(STDOUT);
 }
 
 // What was wrong with the arguments, then the usage.
 pub fn wrong(what: &[u8]) {
-    io::write_all(STDERR_FILENO, b"families: ");
-    io::write_all(STDERR_FILENO, what);
-    io::write_all(STDERR_FILENO, b"\n");
-    lines(STDERR_FILENO);
+    io::write_all(STDERR, b"families: ");
+    io::write_all(STDERR, what);
+    io::write_all(STDERR, b"\n");
+    lines(STDERR);
 }

@@ -1,7 +1,6 @@
 // What is answered to a line in words. Each answers false where standard output takes no more.
 use crate::limits::LONGEST_LINE;
-use console::{counted, end, few_slots, field, text};
-use libc::STDOUT_FILENO;
+use console::{STDOUT, counted, end, few_slots, field, text};
 use report::{SLOTS, line_words};
 
 // A line of words alone.
@@ -43,9 +42,9 @@ fn step_words(number: u8, last: usize) {
             field(b"the weight is above ", last);
             text(b", that of the last link");
         }
-        15 => few_slots(STDOUT_FILENO, SLOTS),
+        15 => few_slots(STDOUT, SLOTS),
         19 => text(b"there is no link to take back"),
-        _ => line_words(STDOUT_FILENO, number),
+        _ => line_words(STDOUT, number),
     }
 }
 

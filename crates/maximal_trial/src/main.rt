@@ -3,8 +3,7 @@
 // Runs the listing by maximal cliques and the meeting weight by both runs as the script in the file stdin says, on document 01's small sheets and with
 // refusals, and prints what they answer: held to the file stdout. A line's numbers are the slots of the tables, those of the last table and k, then the
 // threshold and the bytes of the output, or the two sets.
-use console::{field, text};
-use libc::STDIN_FILENO;
+use console::{STDIN, field, text};
 use meeting::Met;
 use runs::Method;
 use sets::Set;
@@ -176,7 +175,7 @@ fn groups() -> [u8; 8332] {
 
 fn main() {
     let mut input = [0u8; 8192];
-    let n = io::read_full(STDIN_FILENO, &mut input);
+    let n = io::read_full(STDIN, &mut input);
     run(&input[..n]);
     let many = groups();
     row(b"groups of three: listing 1000 1000 3 4 40", &many);

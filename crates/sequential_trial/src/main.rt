@@ -5,8 +5,7 @@
 // the threshold and the bytes of the output, or the part count, the bytes of the output and where the links stand among the bytes, a link from part 255 for
 // a taking back; of a line with tables that are not the state's, an entry, what it is set to, the slots of each table, and the entries of the journal.
 use answers::Answer;
-use console::{field, text};
-use libc::STDIN_FILENO;
+use console::{STDIN, field, text};
 use runs::Method;
 use states::State;
 
@@ -190,6 +189,6 @@ fn run(script: &[u8]) {
 
 fn main() {
     let mut input = [0u8; 8192];
-    let n = io::read_full(STDIN_FILENO, &mut input);
+    let n = io::read_full(STDIN, &mut input);
     run(&input[..n]);
 }

@@ -3,8 +3,7 @@
 // Checks, reads and writes small sheets as the script in the file stdin says, each refusal once and the orders between them, and prints what the calls answer:
 // held to the file stdout. A line's numbers are a part, or the lengths of the lent lists and of the output.
 use answers::Answer;
-use console::{field, text};
-use libc::STDIN_FILENO;
+use console::{STDIN, field, text};
 use sheet::{Checked, Found};
 
 fn number(n: usize) {
@@ -177,6 +176,6 @@ fn run(script: &[u8]) {
 
 fn main() {
     let mut input = [0u8; 8192];
-    let n = io::read_full(STDIN_FILENO, &mut input);
+    let n = io::read_full(STDIN, &mut input);
     run(&input[..n]);
 }

@@ -2,8 +2,7 @@
 
 // The tree program: reads a sheet from standard input, takes k 3, and writes the rows of its merge tree, or one refusal.
 use answers::Answer;
-use console::{field, text};
-use libc::STDIN_FILENO;
+use console::{STDIN, field, text};
 use sheet::Checked;
 
 fn refused(n: u8, place: usize) {
@@ -74,7 +73,7 @@ fn show(s: &[u8]) {
 
 fn main() {
     let mut input = [0u8; 65537];
-    let n = io::read_full(STDIN_FILENO, &mut input);
+    let n = io::read_full(STDIN, &mut input);
     if 65536 < n {
         refused(3, 65536);
         return;

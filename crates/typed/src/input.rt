@@ -3,8 +3,7 @@ ghost use Rattle.std.specs.Prelude.{◌≡◌, List, ◌++◌, ℕ, suc, ◌-◌
 ghost use Rattle.typed.specs.Lines.{KeptIn, TakenIn};
 
 use crate::{Kept, Next, READS, Taken};
-use console::{Loaded, find, read_on};
-use libc::STDIN_FILENO;
+use console::{Loaded, STDIN, find, read_on};
 
 fn none(ended: bool) -> Kept
     ensures { (result.from ≡ 0) × (result.to ≡ 0) }
@@ -82,7 +81,7 @@ fn pass_over(buf: &mut [u8]) -> Kept
 {
     let mut i = 0;
     while i < READS {
-        let Loaded::Bytes(n) = read_on(STDIN_FILENO, b"standard input", buf, 0) else {
+        let Loaded::Bytes(n) = read_on(STDIN, b"standard input", buf, 0) else {
             return none(true);
         };
         if n == 0 {
@@ -104,7 +103,7 @@ fn read_line(buf: &mut [u8], n: usize) -> Taken
 {
     let mut to = n;
     while to < buf.len() {
-        let Loaded::Bytes(more) = read_on(STDIN_FILENO, b"standard input", buf, to) else {
+        let Loaded::Bytes(more) = read_on(STDIN, b"standard input", buf, to) else {
             return last(0, 0);
         };
         if more == 0 {
