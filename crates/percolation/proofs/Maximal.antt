@@ -171,11 +171,11 @@ module _ (L : List Link) (p k : ℕ) where
         let x : ℕ = r.0 in
         let y : ℕ = r.1 in
         let h = r.2 in
-        chain_trans (clique_chain L p k (size A) A a x M.clique sa h.left ia h.leftIn)
+        chain_trans (clique_chain L p k (size A) A a x M.clique sa h.left ia h.left_in)
         (chain_trans
-        (near k x y h.left h.right h.share (inside_clique L p (size A) A k x M.clique h.leftIn h.left)
-        (inside_clique L p (size B) B k y N.clique h.rightIn h.right))
-        (overlap_chain c y b h.right sb h.rightIn ib))
+        (near k x y h.left h.right h.share (inside_clique L p (size A) A k x M.clique h.left_in h.left)
+        (inside_clique L p (size B) B k y N.clique h.right_in h.right))
+        (overlap_chain c y b h.right sb h.right_in ib))
 
     -- the two methods agree on what is joined
     pub agree : (a b A B : ℕ) → a ∈ cliques L p k → b ∈ cliques L p k → A ∈ maximals L p k → B ∈ maximals L p k → sub a A ≡ true → sub b B ≡ true

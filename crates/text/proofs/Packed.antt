@@ -66,15 +66,15 @@ unfolding field.spaces padded
 spaces_form zero = refl
 spaces_form (suc n) = spaces_form n
 
-rest_form : (n : ℕ) (x : List ℕ) → all field.visible x ≡ true → field.visibleThenSpaces (padded n x) ≡ true
-unfolding field.visibleThenSpaces field.visible field.spaces padded all
+rest_form : (n : ℕ) (x : List ℕ) → all field.visible x ≡ true → field.visible_then_spaces (padded n x) ≡ true
+unfolding field.visible_then_spaces field.visible field.spaces padded all
 rest_form zero x h = refl
 rest_form (suc n) [] h = spaces_form n
 rest_form (suc n) (b ∷ x) h = rw (and_left (field.visible b) _ h) (rest_form n x (and_right (field.visible b) _ h))
 
 -- a name, padded, has the form of a sheet's name
-pub padded_form : (x : List ℕ) → is_name x ≡ true → field.isName (padded 8 x) ≡ true
-unfolding is_name all field.isName field.visible padded
+pub padded_form : (x : List ℕ) → is_name x ≡ true → field.is_name (padded 8 x) ≡ true
+unfolding is_name all field.is_name field.visible padded
 padded_form [] h = h
 padded_form (b ∷ x) h =
     let e = and_right (in_range 1 8 (length (b ∷ x))) (all field.visible (b ∷ x)) h in
@@ -169,14 +169,14 @@ module _ (text : List ℕ) (n : ℕ) (t : LinkLists) (ok : check_text text n t �
   parts_same : net.parts_of (text_network_lem text) ≡ length (parts_of text)
   parts_same = omega (arith, bytes_length (parts_of text))
 
-  links_same : net.linksIn (text_network_lem text) ≡ length (sorted_links text)
+  links_same : net.links_in (text_network_lem text) ≡ length (sorted_links text)
   links_same = length-map (sorted_links text) (λ l. l.low)
 
-  network_shape : net.hasShape (text_network_lem text) ≡ true
-  unfolding net.hasShape
+  network_shape : net.has_shape (text_network_lem text) ≡ true
+  unfolding net.has_shape
   network_shape =
       and_intro (eqb (length (name_bytes (parts_of text)) % 8) 0) _ eights
-      (and_intro (eqb (length (map (λ l. l.high) (sorted_links text))) (net.linksIn (text_network_lem text))) _ (eq-eqb _ _ (length-map (sorted_links text) (λ l. l.high) ∙ sym links_same))
+      (and_intro (eqb (length (map (λ l. l.high) (sorted_links text))) (net.links_in (text_network_lem text))) _ (eq-eqb _ _ (length-map (sorted_links text) (λ l. l.high) ∙ sym links_same))
       (eq-eqb _ _ (length-map (sorted_links text) (λ l. l.weight) ∙ sym links_same)))
     where
       eights : eqb (length (name_bytes (parts_of text)) % 8) 0 ≡ true
@@ -187,13 +187,13 @@ module _ (text : List ℕ) (n : ℕ) (t : LinkLists) (ok : check_text text n t �
   text_once = after_parts (λ N. each_two other N ≡ true) n (more_once n) [] (lines_of text) refl (then_left (check_parts n [] (lines_of text)) _ ok)
 
   -- name q of the network is the text's, padded
-  name_in_lem : (q : ℕ) → q < length (parts_of text) → net.eightIn (text_network_lem text) q ≡ padded 8 (get_or (parts_of text) q [])
+  name_in_lem : (q : ℕ) → q < length (parts_of text) → net.eight_in (text_network_lem text) q ≡ padded 8 (get_or (parts_of text) q [])
   name_in_lem q l = ap (λ (b : List ℕ). take 8 (drop (8 * q) b)) (sym (append-nil (name_bytes (parts_of text)))) ∙ bytes_at_lem (parts_of text) [] q l
 
   named_at : (q : ℕ) → q < length (parts_of text) → is_name (get_or (parts_of text) q []) ≡ true
   named_at q l = held_name (parts_of text) q text_named l
 
-  names_differ : field.AllDiffer (net.eightIn (text_network_lem text)) (length (parts_of text))
+  names_differ : field.AllDiffer (net.eight_in (text_network_lem text)) (length (parts_of text))
   names_differ q r h l e =
       let x = get_or (parts_of text) q [] in
       let y = get_or (parts_of text) r [] in
@@ -201,11 +201,11 @@ module _ (text : List ℕ) (n : ℕ) (t : LinkLists) (ok : check_text text n t �
       let one = padded_once x y (named_at q m) (named_at r l) (sym (name_in_lem q m) ∙ e ∙ name_in_lem r l) in
       never (same y x) (ap (same y) one ∙ same_self y) (not-true (same y x) (each_two_places other (parts_of text) [] text_once q r h l))
 
-  network_names : field.checkNames (net.eightIn (text_network_lem text)) (λ q. 0) (net.parts_of (text_network_lem text)) ≡ accepted
+  network_names : field.check_names (net.eight_in (text_network_lem text)) (λ q. 0) (net.parts_of (text_network_lem text)) ≡ accepted
   network_names =
-      ap (field.checkNames (net.eightIn (text_network_lem text)) (λ q. 0)) parts_same
-      ∙ all_names (net.eightIn (text_network_lem text)) (λ q. 0) (length (parts_of text))
-      (λ q l. ap field.isName (name_in_lem q l) ∙ padded_form (get_or (parts_of text) q []) (named_at q l)) names_differ
+      ap (field.check_names (net.eight_in (text_network_lem text)) (λ q. 0)) parts_same
+      ∙ all_names (net.eight_in (text_network_lem text)) (λ q. 0) (length (parts_of text))
+      (λ q l. ap field.is_name (name_in_lem q l) ∙ padded_form (get_or (parts_of text) q []) (named_at q l)) names_differ
 
   link_at_lem : (j : ℕ) → j < length (sorted_links text) → net.link_in (text_network_lem text) j ≡ get_or (sorted_links text) j (link 0 0 0)
   unfolding net.link_in
@@ -215,22 +215,22 @@ module _ (text : List ℕ) (n : ℕ) (t : LinkLists) (ok : check_text text n t �
       ap₂ (λ (a b : ℕ). link a b (get_or (map (λ k. k.weight) (sorted_links text)) j 0)) (map_at (λ k. k.low) (sorted_links text) j d 0 l) (map_at (λ k. k.high) (sorted_links text) j d 0 l)
       ∙ ap (link m.low m.high) (map_at (λ k. k.weight) (sorted_links text) j d 0 l)
 
-  network_links : list_of (net.link_in (text_network_lem text)) (net.linksIn (text_network_lem text)) ≡ (sorted_links text)
+  network_links : list_of (net.link_in (text_network_lem text)) (net.links_in (text_network_lem text)) ≡ (sorted_links text)
   network_links = ext_get_or (link 0 0 0) all_links (sorted_links text) (size ∙ links_same) each
     where
       all_links : List Link
-      all_links = list_of (net.link_in (text_network_lem text)) (net.linksIn (text_network_lem text))
+      all_links = list_of (net.link_in (text_network_lem text)) (net.links_in (text_network_lem text))
 
-      size : length all_links ≡ net.linksIn (text_network_lem text)
-      size = list_of_length (net.link_in (text_network_lem text)) (net.linksIn (text_network_lem text))
+      size : length all_links ≡ net.links_in (text_network_lem text)
+      size = list_of_length (net.link_in (text_network_lem text)) (net.links_in (text_network_lem text))
 
       each : (j : ℕ) → j < length all_links → get_or all_links j (link 0 0 0) ≡ get_or (sorted_links text) j (link 0 0 0)
       each j l =
-          let k : j < net.linksIn (text_network_lem text) = omega (arith, size) in
-          list_of_at (net.link_in (text_network_lem text)) (net.linksIn (text_network_lem text)) j (link 0 0 0) k ∙ link_at_lem j (omega (arith, links_same))
+          let k : j < net.links_in (text_network_lem text) = omega (arith, size) in
+          list_of_at (net.link_in (text_network_lem text)) (net.links_in (text_network_lem text)) j (link 0 0 0) k ∙ link_at_lem j (omega (arith, links_same))
 
   -- the writer accepts it
-  pub text_network : net.checkNetwork (text_network_lem text) ≡ accepted
+  pub text_network : net.check_network (text_network_lem text) ≡ accepted
   text_network =
       network_passes (text_network_lem text) network_shape (ap narrow_count parts_same ∙ text_counted) network_names
       (ap₂ (λ (p : ℕ) (L : List Link). legal p L) parts_same network_links ∙ text_legal)
@@ -264,5 +264,5 @@ module _ (text names names2 : List ℕ) (t t2 : LinkLists) (r : Text) (p m : ℕ
       (front t2.higher t.higher L (λ l. l.high) m (ap (λ (u : LinkLists). u.higher) e) h)
       (front t2.weights t.weights L (λ l. l.weight) m (ap (λ (u : LinkLists). u.weights) e) h)
 
-  pub left_accepted : net.checkNetwork (network (take (8 * p) names2) (take m t2.lower) (take m t2.higher) (take m t2.weights)) ≡ accepted
-  left_accepted = ap net.checkNetwork left_network ∙ text_network text (length names) t told.0
+  pub left_accepted : net.check_network (network (take (8 * p) names2) (take m t2.lower) (take m t2.higher) (take m t2.weights)) ≡ accepted
+  left_accepted = ap net.check_network left_network ∙ text_network text (length names) t told.0

@@ -4,4 +4,4 @@ use borrow.Author.Rules.{rules}
 use Rattle.families_c.proofs.families_read.Goals as goal
 
 pub returns : goal.returns
-returns c = (c.of_sheet.ensures ∙ ap sheet_shown c.read.ensures.answer, c.read.ensures.lists)
+returns c = record { value = c.of_sheet.ensures ∙ ap sheet_shown c.read.ensures.answer; weights_after = c.read.ensures.lists }

@@ -4,4 +4,4 @@ use borrow.Author.Rules.{rules}
 use Rattle.families_c.proofs.families_write.Goals as goal
 
 pub returns : goal.returns
-returns c = (c.of_answer.ensures ∙ ap shown c.write.ensures.answer, c.write.ensures.bytes)
+returns c = record { value = c.of_answer.ensures ∙ ap shown c.write.ensures.answer; out_after = c.write.ensures.bytes }

@@ -12,13 +12,13 @@ loop-r-init c = halving_begin _ _
 pub returns-then-r-f : goal.returns-then-r-f
 returns-then-r-f c =
     let x = halving_stop _ _ _ _ _ c.loop-r.invariant c.entry-f.ensures c.if-r-f.true in
-    ((x.0, omega arith), x.1)
+    record { value = (x.0, omega arith); entries_after = x.1 }
 
 pub returns-then-f-g : goal.returns-then-f-g
 returns-then-f-g c =
     let b = c in
     let x = halving_last _ _ _ _ _ b.loop-r.invariant b.entry-f.ensures _ c.entry-g.ensures (omega arith) c.if-f-g.true in
-    ((x.0, omega arith), x.1)
+    record { value = (x.0, omega arith); entries_after = x.1 }
 
 pub offset_bounds-entries-f : goal.offset_bounds-entries-f
 offset_bounds-entries-f c = omega (arith, reached c)

@@ -11,7 +11,7 @@ use Rattle.journal.proofs.retake.Goals as goal
 pub returns-then-not-good_entry : goal.returns-then-not-good_entry
 returns-then-not-good_entry c =
     let t = sym c.good_entry.ensures ∙ c.if-not-good_entry.true in
-    (skip_tables _ _ _ _ _ t, (skip_rows _ _ c.args.k _ (tables [] [] [] [] 0) t, c.requires.2))
+    record { result_after = skip_tables _ _ _ _ _ t; rows_after = (skip_rows _ _ c.args.k _ (tables [] [] [] [] 0) t, c.requires.2) }
 
 pub take_link-requires : goal.take_link-requires
 take_link-requires c =
@@ -23,4 +23,4 @@ pub returns : goal.returns
 returns c =
     let t = sym c.good_entry.ensures ∙ c.if-not-good_entry.false in
     let d = c.take_link in
-    (one_tables _ _ _ _ _ t _ _ c.low_of-low.ensures c.high_of-high.ensures _ d.ensures.0, (one_rows _ _ c.args.k _ (tables [] [] [] [] 0) t _ _ c.low_of-low.ensures c.high_of-high.ensures _ d.ensures.1.0, d.ensures.1.1))
+    record { result_after = one_tables _ _ _ _ _ t _ _ c.low_of-low.ensures c.high_of-high.ensures _ d.ensures.0; rows_after = (one_rows _ _ c.args.k _ (tables [] [] [] [] 0) t _ _ c.low_of-low.ensures c.high_of-high.ensures _ d.ensures.1.0, d.ensures.1.1) }

@@ -19,7 +19,7 @@ pub overflow_add-result : goal.overflow_add-result
 overflow_add-result c =
     let a = c.args in
     let t = link_lists a.lower.now a.higher.now a.weights.now in
-    omega (arith, (room_of t a.m (sym c.put.ensures.0 ∙ c.if-put.true)).lower)
+    omega (arith, (room_of t a.m (sym c.put.ensures.value ∙ c.if-put.true)).lower)
 
 pub returns-then-put : goal.returns-then-put
 returns-then-put c =

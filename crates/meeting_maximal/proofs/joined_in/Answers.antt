@@ -17,4 +17,4 @@ returns c =
     let h = w in
     let i = h in
     let l : i.holder-i.result < i.args.n = omega (arith, h.if-n-i.false) in
-    λ L p st one sa sb. class_tells L p _ _ _ st one _ _ sa sb _ l (i.holder-i.ensures.2 l) _ _ _ _ _ w.swap.ensures g.class_at-class.ensures.0 _ c.holder.ensures.0 c.holder.ensures.1 c.holder.ensures.2
+    λ L p st one sa sb. class_tells L p _ _ _ st one _ _ sa sb _ l (i.holder-i.ensures.2 l) _ _ _ _ _ w.swap.ensures g.class_at-class.ensures.whole_after _ c.holder.ensures.0 c.holder.ensures.1 c.holder.ensures.2

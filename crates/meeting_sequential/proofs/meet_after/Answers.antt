@@ -32,7 +32,7 @@ pub loop-filled-preserved : goal.loop-filled-preserved
 loop-filled-preserved c =
     let k = c.take_links-used.auto.1 in
     let l = c.loop-filled.invariant in (
-      λ a b begun. let t = l.0 a b begun in turn_more _ c.requires.0 _ c.requires.2 _ _ _ _ _ _ _ t _ _ c.root.ensures.0 c.root-in-loop-filled.ensures.0 c.if-root.false (omega (arith, t.taken.within, c.if-n-m.false, c.requires.1)) _ _ c.take_links-used.ensures.1.0 c.take_links-used.ensures.0,
+      λ a b begun. let t = l.0 a b begun in turn_more _ c.requires.0 _ c.requires.2 _ _ _ _ _ _ _ t _ _ c.root.ensures.0 c.root-in-loop-filled.ensures.0 c.if-root.false (omega (arith, t.taken.within, c.if-n-m.false, c.requires.1)) _ _ c.take_links-used.ensures.rows_after.0 c.take_links-used.ensures.result_after,
       k.0 ∙ l.1,
       k.1.0 ∙ l.2,
       k.1.1.0 ∙ l.3,

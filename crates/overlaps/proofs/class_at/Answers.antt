@@ -22,11 +22,11 @@ loop-f-preserved c =
       omega arith,
       b.sweep-e.auto.0 ∙ l.invariant.3,
       grow_next _ _ _ _ _ _ _ l.invariant.4 (omega arith) (omega arith) _ _ _ _ s.at-s.ensures b.lows.ensures
-          b.lesser-small.ensures b.union-whole.ensures _ _ b.sweep-e.ensures.0,
+          b.lesser-small.ensures b.union-whole.ensures _ _ b.sweep-e.ensures.result_after,
     )
 
 pub shape_of-table : goal.shape_of-table
 shape_of-table c = c.loop-f.invariant.3
 
 pub returns : goal.returns
-returns c = let l = c.loop-f in (grow_done _ _ _ _ _ _ _ l.invariant.4 (omega arith), (omega arith, omega arith))
+returns c = let l = c.loop-f in record { whole_after = grow_done _ _ _ _ _ _ _ l.invariant.4 (omega arith); i_lt_end = (omega arith, omega arith) }

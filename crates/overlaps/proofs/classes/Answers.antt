@@ -21,7 +21,7 @@ loop-i-preserved c =
       s.class_at-class.auto.0 ∙ l.invariant.2,
       p.put.auto.0 ∙ l.invariant.3,
       b.put-in-loop-i.auto.0 ∙ l.invariant.4,
-      class_next _ _ _ _ _ _ _ l.invariant.5 (omega arith) (omega arith) _ _ _ _ _ _ s.class_at-class.ensures.0 p.put.ensures b.put-in-loop-i.ensures,
+      class_next _ _ _ _ _ _ _ l.invariant.5 (omega arith) (omega arith) _ _ _ _ _ _ s.class_at-class.ensures.whole_after p.put.ensures b.put-in-loop-i.ensures,
     )
 
 pub shape_of-sets : goal.shape_of-sets

@@ -43,4 +43,4 @@ pub shape_of-table : goal.shape_of-table
 shape_of-table c = c.loop-j.invariant.3
 
 pub returns : goal.returns
-returns c = let l = c.loop-j in (sweep_done _ _ _ _ _ _ (omega arith) l.invariant.4, (omega arith, omega arith))
+returns c = let l = c.loop-j in record { result_after = sweep_done _ _ _ _ _ _ (omega arith) l.invariant.4; lower_bound = (omega arith, omega arith) }

@@ -22,13 +22,13 @@ loop-i-preserved-then-is_strong c =
     let l = c.loop-i in
     let k = c.take_fitting-used.auto in (
       omega arith,
-      c.take_fitting-used.ensures.1,
+      c.take_fitting-used.ensures.upper_bound,
       k.0 ∙ l.invariant.2,
       k.1.0 ∙ l.invariant.3,
       k.1.1.0 ∙ l.invariant.4,
       k.1.1.1.0 ∙ l.invariant.5,
       l.invariant.6
-          ∙ strong_yes _ _ _ _ l.i _ c.loop-i-test.true refl _ _ _ (sym (told_strong _ _ _ _ _ c.requires.1 l.i c.loop-i-test.true _ c.is_strong.ensures) ∙ c.if-is_strong.true) _ c.at-q.ensures c.take_fitting-used.ensures.0,
+          ∙ strong_yes _ _ _ _ l.i _ c.loop-i-test.true refl _ _ _ (sym (told_strong _ _ _ _ _ c.requires.1 l.i c.loop-i-test.true _ c.is_strong.ensures) ∙ c.if-is_strong.true) _ c.at-q.ensures c.take_fitting-used.ensures.result_after,
     )
 
 pub loop-i-preserved : goal.loop-i-preserved

@@ -33,8 +33,8 @@ loop-rest-preserved c =
     let e = c.lowest-q.ensures in
     let g = c.without-rest.ensures in (
       still_fits _ _ z e l.invariant.0 _ g,
-      pairs_more _ _ z e l.invariant.0 _ g times_of _ _ _ c.strength_with-strength.ensures.0 ∙ l.invariant.1,
-      pairs_more _ _ z e l.invariant.0 _ g min _ _ _ c.strength_with-strength.ensures.1 ∙ l.invariant.2,
+      pairs_more _ _ z e l.invariant.0 _ g times_of _ _ _ c.strength_with-strength.ensures.product_value ∙ l.invariant.1,
+      pairs_more _ _ z e l.invariant.0 _ g min _ _ _ c.strength_with-strength.ensures.weakest_value ∙ l.invariant.2,
     )
 
 pub returns : goal.returns
@@ -42,4 +42,4 @@ returns c =
     let l = c.loop-rest in
     let z = sym c.is_empty.ensures ∙ c.loop-rest-test.false in
     let narrow = first_narrow _ _ (λ i. (c.shared_slice_known-1.given i).fits) in
-    (sym (pairs_done times_of _ _ _ z) ∙ l.invariant.1 ∙ from_one _ narrow, sym (pairs_done min _ _ _ z) ∙ l.invariant.2 ∙ weakest_left _)
+    record { product_value = sym (pairs_done times_of _ _ _ z) ∙ l.invariant.1 ∙ from_one _ narrow; weakest_value = sym (pairs_done min _ _ _ z) ∙ l.invariant.2 ∙ weakest_left _ }

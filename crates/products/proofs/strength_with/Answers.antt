@@ -40,4 +40,4 @@ pub returns : goal.returns
 returns c =
     let l = c.loop-rest in
     let z = sym c.is_empty.ensures ∙ c.loop-rest-test.false in
-    (sym (with_done times_of _ _ _ z) ∙ l.invariant.1, sym (with_done min _ _ _ z) ∙ l.invariant.2)
+    record { product_value = sym (with_done times_of _ _ _ z) ∙ l.invariant.1; weakest_value = sym (with_done min _ _ _ z) ∙ l.invariant.2 }

@@ -59,4 +59,4 @@ returns c =
     let a = c.args in
     let l = c.loop-j in
     let e : l.j ≡ a.to = omega (arith, c.loop-j-test.false, l.invariant.0) in
-    (tables_end _ _ _ (sheet_given a.sheet.now) a.to c.requires.2 a.k l.rows _ l.j e ∙ l.invariant.3, (rows_end _ _ _ (sheet_given a.sheet.now) a.to c.requires.2 l.rows l.j e ∙ l.invariant.2, l.invariant.1))
+    record { result_after = tables_end _ _ _ (sheet_given a.sheet.now) a.to c.requires.2 a.k l.rows _ l.j e ∙ l.invariant.3; rows_after = (rows_end _ _ _ (sheet_given a.sheet.now) a.to c.requires.2 l.rows l.j e ∙ l.invariant.2, l.invariant.1) }

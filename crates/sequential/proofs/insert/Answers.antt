@@ -20,4 +20,4 @@ pub add-links-requires : goal.add-links-requires
 add-links-requires c = let z = sym c.insert_number-n.ensures ∙ c.if-n-ne0.false in insert_parts _ _ _ _ z
 
 pub returns : goal.returns
-returns c = taken_meets _ _ _ _ (omega (arith, c.ranges.weight)) (sym c.insert_number-n.ensures ∙ c.if-n-ne0.false) _ _ _ _ _ c.take_link-used.ensures.0 c.take_link-used.ensures.1.0 c.add-links.ensures.1 c.add-links.ensures.0 refl refl
+returns c = taken_meets _ _ _ _ (omega (arith, c.ranges.weight)) (sym c.insert_number-n.ensures ∙ c.if-n-ne0.false) _ _ _ _ _ c.take_link-used.ensures.result_after c.take_link-used.ensures.rows_after.0 c.add-links.ensures.1 c.add-links.ensures.0 refl refl

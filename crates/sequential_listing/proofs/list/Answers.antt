@@ -26,4 +26,4 @@ returns c =
     let a = c.args in
     let f = sym c.has_slots.ensures ∙ c.if-not-has_slots.false in
     run_listing _ _ _ a.out.now _ _ f
-    (run_lists _ _ _ c.requires.0 a.n f _ _ _ c.no_rows-rows.ensures c.clear.ensures c.take_links-used.ensures.0) c.list_roots.ensures
+    (run_lists _ _ _ c.requires.0 a.n f _ _ _ c.no_rows-rows.ensures c.clear.ensures c.take_links-used.ensures.result_after) c.list_roots.ensures

@@ -30,7 +30,7 @@ returns-then-out-size c =
 pub put_sheet-requires : goal.put_sheet-requires
 put_sheet-requires c =
     let w = network_few _ (sym c.check_network.ensures ∙ ap verdict c.enum_told-1.given.1) in
-    ((w.2, w.3), omega (arith, c.if-out-size.false, c.sheet_length-size.ensures.0))
+    record { higher_len = (w.2, w.3); lower_in_bounds = omega (arith, c.if-out-size.false, c.sheet_length-size.ensures.0) }
 
 pub returns-in-Stop : goal.returns-in-Stop
 unfolding check_write

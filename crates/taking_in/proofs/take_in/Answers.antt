@@ -10,11 +10,8 @@ returns-then-is_empty c =
     let t = c in
     let z = t in
     let w = z in
-    let a = w in (
-      took_in_lem _ _ _ _ _ _ (peeled _ _ _ w.lowest.ensures w.without-rest.ensures) z.find-first.ensures
-          (sym (peel_end _ _ _ _ (sym z.is_empty.ensures ∙ t.if-is_empty.true))) (t.touch.ensures _),
-      a.requires,
-    )
+    let a = w in record { result_after = took_in_lem _ _ _ _ _ _ (peeled _ _ _ w.lowest.ensures w.without-rest.ensures) z.find-first.ensures
+          (sym (peel_end _ _ _ _ (sym z.is_empty.ensures ∙ t.if-is_empty.true))) (t.touch.ensures _); upper_bound = a.requires }
 
 pub returns : goal.returns
 returns c =
@@ -26,6 +23,6 @@ returns c =
     let some = sym z.is_empty.ensures ∙ u.if-is_empty.false in
     let at = z.find-first.ensures in
     let rest = peeled _ _ _ w.lowest.ensures w.without-rest.ensures in
-    let one = took_part_lem _ _ _ _ _ _ _ w.without-rest.ensures at u.take_slot-m.ensures.0 in
+    let one = took_part_lem _ _ _ _ _ _ _ w.without-rest.ensures at u.take_slot-m.ensures.result_after in
     let next = peel_next _ _ _ some w.lowest.ensures w.without-rest.ensures _ _ _ _ (held a.args.q a.well_formed.1.1.1.1.1.0) one in
-    (took_in_lem _ _ _ _ _ _ rest at (t.take_parts-n.ensures.0 ∙ sym next) (c.touch-2.ensures _), t.take_parts-n.ensures.1)
+    record { result_after = took_in_lem _ _ _ _ _ _ rest at (t.take_parts-n.ensures.result_after ∙ sym next) (c.touch-2.ensures _); upper_bound = t.take_parts-n.ensures.upper_bound }

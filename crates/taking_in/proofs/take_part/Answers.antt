@@ -6,4 +6,4 @@ pub returns : goal.returns
 returns c =
     let t = c in
     let f = t in
-    (took_part_lem _ _ _ _ _ _ _ f.without-s.ensures f.find-i.ensures t.take_slot.ensures.0, t.take_slot.ensures.1)
+    record { result_after = took_part_lem _ _ _ _ _ _ _ f.without-s.ensures f.find-i.ensures t.take_slot.ensures.result_after; upper_bound = t.take_slot.ensures.upper_bound }

@@ -33,13 +33,13 @@ loop-q-preserved c =
     let l = z.loop-q in
     let k = t.take_part-n.auto in (
       held w.without-rest.result w.without-rest.type_inv,
-      t.take_part-n.ensures.1,
+      t.take_part-n.ensures.upper_bound,
       k.0 ∙ l.invariant.2,
       k.1.0 ∙ l.invariant.3,
       k.1.1.0 ∙ l.invariant.4,
       k.1.1.1.0 ∙ l.invariant.5,
       l.invariant.6
-          ∙ peel_next _ _ _ (sym z.is_empty.ensures ∙ w.loop-q-test.true) w.lowest-part.ensures w.without-rest.ensures _ _ _ _ l.invariant.0 t.take_part-n.ensures.0,
+          ∙ peel_next _ _ _ (sym z.is_empty.ensures ∙ w.loop-q-test.true) w.lowest-part.ensures w.without-rest.ensures _ _ _ _ l.invariant.0 t.take_part-n.ensures.result_after,
     )
 
 pub shape_of-sets : goal.shape_of-sets
@@ -57,4 +57,4 @@ shape_of-unions c = c.loop-q.invariant.5
 pub returns : goal.returns
 returns c =
     let l = c.loop-q in
-    (sym (l.invariant.6 ∙ peel_end _ _ _ _ (sym c.is_empty.ensures ∙ c.loop-q-test.false)), l.invariant.1)
+    record { result_after = sym (l.invariant.6 ∙ peel_end _ _ _ _ (sym c.is_empty.ensures ∙ c.loop-q-test.false)); upper_bound = l.invariant.1 }

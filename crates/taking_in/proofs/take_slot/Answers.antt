@@ -15,10 +15,10 @@ placed_fits c =
     ((placed_kept _ _ _).fits c.before.before.before.before.before.before.before.before.before.requires.0)
 
 pub returns-then-n-first : goal.returns-then-n-first
-returns-then-n-first c = let p = c in (slot_idle _ _ _ _ p.place-n.ensures (inl c.if-n-first.true), placed_fits p)
+returns-then-n-first c = let p = c in record { result_after = slot_idle _ _ _ _ p.place-n.ensures (inl c.if-n-first.true); upper_bound = placed_fits p }
 
 pub returns-then-n-i : goal.returns-then-n-i
-returns-then-n-i c = let p = c in (slot_idle _ _ _ _ p.place-n.ensures (inr c.if-n-i.true), placed_fits p)
+returns-then-n-i c = let p = c in record { result_after = slot_idle _ _ _ _ p.place-n.ensures (inr c.if-n-i.true); upper_bound = placed_fits p }
 
 pub join-requires : goal.join-requires
 join-requires c = let p = c in omega (arith, placed_fits p, room_within p.place-n.new.1.0)
@@ -28,4 +28,4 @@ returns c =
     let j = c in
     let g = j in
     let p = c in
-    (slot_both _ _ _ _ p.place-n.ensures g.if-n-first.false g.if-n-i.false _ (j.join.ensures _ _), rw (same_room p.place-n.new.1.0 _ j.join.auto.0) (placed_fits p))
+    record { result_after = slot_both _ _ _ _ p.place-n.ensures g.if-n-first.false g.if-n-i.false _ (j.join.ensures _ _); upper_bound = rw (same_room p.place-n.new.1.0 _ j.join.auto.0) (placed_fits p) }

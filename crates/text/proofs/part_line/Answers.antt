@@ -7,7 +7,7 @@ pub returns-in-Neither : goal.returns-in-Neither
 returns-in-Neither c = λ N h l. line_101 N _ _ _ _ (form_said _ _ _ c.enum_told-1.given.1 c.form_of.ensures)
 
 pub returns-in-Part : goal.returns-in-Part
-returns-in-Part c = λ N h l. line_part N _ _ _ _ _ _ _ (form_said _ _ _ c.enum_told-in-Part-1.given.1 c.form_of.ensures) c.word.ensures.0 (c.put_part.ensures N h l)
+returns-in-Part c = λ N h l. line_part N _ _ _ _ _ _ _ (form_said _ _ _ c.enum_told-in-Part-1.given.1 c.form_of.ensures) c.word.ensures.result_value (c.put_part.ensures N h l)
 
 pub returns-in-Silent : goal.returns-in-Silent
 returns-in-Silent c = λ N h l. line_silent N _ _ _ _ _ (form_said _ _ _ c.enum_told-in-Silent-1.given.1 c.form_of.ensures) h l refl

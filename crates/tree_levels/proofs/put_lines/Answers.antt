@@ -38,7 +38,4 @@ pub returns : goal.returns
 returns c =
     let l = c.loop-i in
     let a = c.args in
-    let e : l.i ≡ a.used = omega arith in (
-      l.invariant.1.count ∙ ap (λ (j : ℕ). a.n + length (start_slots a.entries.now a.unions.now a.before j)) e,
-      subst (λ (j : ℕ). FilledTo a.weight a.entries.now a.smallest.now a.unions.now a.before a.used a.out.now a.n j l.out) e l.invariant.1.bytes,
-    )
+    let e : l.i ≡ a.used = omega arith in record { value = l.invariant.1.count ∙ ap (λ (j : ℕ). a.n + length (start_slots a.entries.now a.unions.now a.before j)) e; filled_to = subst (λ (j : ℕ). FilledTo a.weight a.entries.now a.smallest.now a.unions.now a.before a.used a.out.now a.n j l.out) e l.invariant.1.bytes }

@@ -9,7 +9,7 @@ use borrow.Author.Rules.{rules}
 use Rattle.tree_levels.proofs.write_level.Goals as goal
 
 pub number_lines-requires : goal.number_lines-requires
-number_lines-requires c = omega (arith, c.put_lines-m.ensures.0)
+number_lines-requires c = omega (arith, c.put_lines-m.ensures.value)
 
 pub shape_of-unions : goal.shape_of-unions
 shape_of-unions c =
@@ -27,8 +27,5 @@ returns c =
     let counted = put in
     let a = counted.args in
     let p = put.put_lines-m.ensures in
-    let e = counted.count_joins.ensures in (
-      p.0 ∙ ap (λ (x : List ℕ). a.n + length (start_slots a.entries.now x a.before a.used)) e,
-      level_written a.before a.used a.weight a.n a.entries.now a.smallest.now a.unions.now a.out.now _ _ _ _ _ _ _ _ _
-          e p.0 p.1 numbered.number_lines.ensures joined.join_lines.ensures grown.show_growth.ensures c.wipe.ensures,
-    )
+    let e = counted.count_joins.ensures in record { value = p.0 ∙ ap (λ (x : List ℕ). a.n + length (start_slots a.entries.now x a.before a.used)) e; writes_level = level_written a.before a.used a.weight a.n a.entries.now a.smallest.now a.unions.now a.out.now _ _ _ _ _ _ _ _ _
+          e p.0 p.1 numbered.number_lines.ensures joined.join_lines.ensures grown.show_growth.ensures c.wipe.ensures }

@@ -49,7 +49,7 @@ overflow_add-n c =
     let z = c in
     let l = c.loop-j in
     let e = c.level_end-to.ensures in
-    omega (arith, l.invariant.1, c.count_level-n.ensures.0.1, c.take_links-next.ensures.1.1, room_within c.take_links-next.new.1.1.1.0, e.0, e.1, z.requires.1, passes_few _ _ _ z.requires.0 z.requires.2)
+    omega (arith, l.invariant.1, c.count_level-n.ensures.value.1, c.take_links-next.ensures.rows_after.1, room_within c.take_links-next.new.1.1.1.0, e.0, e.1, z.requires.1, passes_few _ _ _ z.requires.0 z.requires.2)
 
 pub loop-j-smaller : goal.loop-j-smaller
 loop-j-smaller c = let e = c.level_end-to.ensures in omega (arith, e.0, e.1)

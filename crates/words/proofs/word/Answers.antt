@@ -7,9 +7,9 @@ use Rattle.words.proofs.word.Goals as goal
 pub returns-then-line-start : goal.returns-then-line-start
 returns-then-line-start c =
     let w = c.word_start-start in
-    (word_none _ _ _ w.ensures (omega arith), (w.result, w.ensures, refl))
+    record { result_value = word_none _ _ _ w.ensures (omega arith); by_index = (w.result, w.ensures, refl) }
 
 pub returns : goal.returns
 returns c =
     let w = c.word_start-start in
-    (word_is _ _ _ w.ensures _ (omega arith) c.word_end-end.ensures.0, (w.result, w.ensures, refl))
+    record { result_value = word_is _ _ _ w.ensures _ (omega arith) c.word_end-end.ensures.0; by_index = (w.result, w.ensures, refl) }

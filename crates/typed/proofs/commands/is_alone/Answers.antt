@@ -11,6 +11,6 @@ returns-then-count_words-ne1 c = (λ e. absurd (true≢false (sym e)), λ e. abs
 
 pub returns : goal.returns
 returns c = (
-  λ e. alone _ _ (sym c.count_words.ensures ∙ c.if-count_words-ne1.false) (sym c.word.ensures.0 ∙ c.same.ensures.0 e),
-  λ e. c.same.ensures.1 (c.word.ensures.0 ∙ ap (λ ws. get_or ws 0 []) e),
+  λ e. alone _ _ (sym c.count_words.ensures ∙ c.if-count_words-ne1.false) (sym c.word.ensures.result_value ∙ c.same.ensures.0 e),
+  λ e. c.same.ensures.1 (c.word.ensures.result_value ∙ ap (λ ws. get_or ws 0 []) e),
 )
