@@ -3,7 +3,6 @@ use Prim.Native.Nat.{◌<◌}
 use lib.ListN.{length}
 use borrow.Author.Rules.{rules}
 use Rattle.joining.proofs.Walk.{falls_inside, Halving, halving_begin, halving_stop, halving_last, halving_turn}
-use Rattle.joining.proofs.halve.Invariants.{reached}
 use Rattle.joining.proofs.halve.Goals as goal
 
 pub loop-r-init : goal.loop-r-init
@@ -21,16 +20,16 @@ returns-then-f-g c =
     record { value = (x.0, omega arith); entries_after = x.1 }
 
 pub offset_bounds-entries-f : goal.offset_bounds-entries-f
-offset_bounds-entries-f c = omega (arith, reached c)
+offset_bounds-entries-f c = let l = c.loop-r in omega (arith, falls_inside l.entries l.r (omega arith))
 
 pub bounds-entries-f : goal.bounds-entries-f
-bounds-entries-f c = omega (arith, reached c)
+bounds-entries-f c = let l = c.loop-r in omega (arith, falls_inside l.entries l.r (omega arith))
 
 pub offset_bounds-entries-r : goal.offset_bounds-entries-r
-offset_bounds-entries-r c = omega (arith, reached c)
+offset_bounds-entries-r c = let l = c.loop-r in omega (arith, falls_inside l.entries l.r (omega arith))
 
 pub bounds-entries-r : goal.bounds-entries-r
-bounds-entries-r c = omega (arith, reached c)
+bounds-entries-r c = let l = c.loop-r in omega (arith, falls_inside l.entries l.r (omega arith))
 
 pub loop-r-preserved : goal.loop-r-preserved
 loop-r-preserved c =
