@@ -1,17 +1,17 @@
 use mathlib.Core.Bool.{true≢false}
-use mathlib.Core.Logic.{⊎_elim}
 use mathlib.Core.Path.{sym, ap, ◌∙◌}
 use borrow.Author.Rules.{rules}
 use Rattle.words.specs.Lines.{comment}
 use Rattle.words.proofs.Said.{says_nothing, says_comment, says_part, says_link, says_neither}
 use Rattle.words.proofs.form_of.Goals as goal
+use Rattle.words.proofs.form_of.Goals.{then-n-eq0-via-then-n-eq0, then-n-eq0-via-else-n-eq0+then-is_comment, else-n-eq2-via-then-n-eq2+else-same, else-n-eq2-via-else-n-eq2, else-n-eq4-via-then-n-eq4+else-same-2, else-n-eq4-via-else-n-eq4}
 
 pub returns-then-n-eq0 : goal.returns-then-n-eq0
 returns-then-n-eq0 c =
-    ⊎_elim
-    (λ w. says_nothing _ (sym c.count_words-n.ensures ∙ w.taken))
-    (λ w. says_comment _ (ap comment (sym c.word-first.ensures.result_value) ∙ sym w.1.ensures ∙ w.2.taken))
-    c.then-n-eq0.branch
+    elim c.then-n-eq0.branch [
+      then-n-eq0-via-then-n-eq0 w ↦ says_nothing _ (sym c.count_words-n.ensures ∙ w.if-n-eq0.true)
+    | then-n-eq0-via-else-n-eq0+then-is_comment w ↦ says_comment _ (ap comment (sym c.word-first.ensures.result_value) ∙ sym w.is_comment.ensures ∙ w.if-is_comment.true)
+    ]
 
 pub returns-then-same : goal.returns-then-same
 returns-then-same c =
@@ -30,5 +30,11 @@ returns c =
     says_neither _
     (λ e. c.if-n-eq0.false (c.count_words-n.ensures ∙ e))
     (ap comment (sym c.word-first.ensures.result_value) ∙ sym c.is_comment.ensures ∙ c.if-is_comment.false)
-    (λ n e. ⊎_elim (λ w. true≢false (sym (w.2.ensures.1 (c.word-first.ensures.result_value ∙ e)) ∙ w.3.left)) (λ w. w.left (c.count_words-n.ensures ∙ n)) c.else-n-eq2.branch)
-    (λ n e. ⊎_elim (λ w. true≢false (sym (w.2.ensures.1 (c.word-first.ensures.result_value ∙ e)) ∙ w.3.left)) (λ w. w.left (c.count_words-n.ensures ∙ n)) c.else-n-eq4.branch)
+    (λ n e. elim c.else-n-eq2.branch [
+      else-n-eq2-via-then-n-eq2+else-same w ↦ true≢false (sym (w.same.ensures.1 (c.word-first.ensures.result_value ∙ e)) ∙ w.if-same.false)
+    | else-n-eq2-via-else-n-eq2 w ↦ w.if-n-eq2.false (c.count_words-n.ensures ∙ n)
+    ])
+    (λ n e. elim c.else-n-eq4.branch [
+      else-n-eq4-via-then-n-eq4+else-same-2 w ↦ true≢false (sym (w.same-then-n-eq4.ensures.1 (c.word-first.ensures.result_value ∙ e)) ∙ w.if-same-2.false)
+    | else-n-eq4-via-else-n-eq4 w ↦ w.if-n-eq4.false (c.count_words-n.ensures ∙ n)
+    ])
