@@ -9,11 +9,6 @@ shape_of-entries c = simp length-set (omega arith)
 
 pub returns : goal.returns
 returns c =
-    let b = c in
-    let g = b in
-    let f = g in
-    let p = f.halve-a.ensures in
-    let q = g.halve-b.ensures in
-    let l = b.lower-lo.ensures in
-    let h = b.higher-hi.ensures in
-    λ s n. join_is _ _ _ _ _ _ _ _ _ p.0.0 p.1 q.0.0 q.1 l h s _ _ n c.merge_lesser.ensures c.merge_union.ensures
+    let p = c.halve-a.ensures in
+    let q = c.halve-b.ensures in
+    λ s n. join_is _ _ _ _ _ _ _ _ _ p.value.0 p.entries_after q.value.0 q.entries_after c.lower-lo.ensures c.higher-hi.ensures s _ _ n c.merge_lesser.ensures c.merge_union.ensures
