@@ -33,5 +33,4 @@ bounds-entries-r c = let l = c.loop-r in omega (arith, falls_inside l.entries l.
 
 pub loop-r-preserved : goal.loop-r-preserved
 loop-r-preserved c =
-    let b = c in
-    halving_turn _ _ _ _ _ b.loop-r.invariant b.entry-f.ensures _ c.entry-g.ensures (omega arith) (omega arith)
+    halving_turn _ _ _ _ _ c.loop-r.invariant c.entry-f.ensures _ c.entry-g.ensures (omega arith) (omega arith)

@@ -5,5 +5,4 @@ use Rattle.slots.proofs.merge_lesser.Goals as goal
 
 pub returns : goal.returns
 returns c =
-    let b = c in
-    merged_is lesser _ _ _ _ _ _ _ b.at.ensures b.at-2.ensures b.lesser-s.ensures c.put.ensures
+    merged_is lesser _ _ _ _ _ _ _ c.at.ensures c.at-2.ensures c.lesser-s.ensures c.put.ensures

@@ -5,5 +5,4 @@ use Rattle.slots.proofs.merge_union.Goals as goal
 
 pub returns : goal.returns
 returns c =
-    let b = c in
-    merged_is union _ _ _ _ _ _ _ b.at.ensures b.at-2.ensures b.union-s.ensures c.put.ensures
+    merged_is union _ _ _ _ _ _ _ c.at.ensures c.at-2.ensures c.union-s.ensures c.put.ensures

@@ -11,8 +11,7 @@ returns-then-i-used c = sym (placed_old _ _ _ (omega (arith, c.requires)))
 
 pub returns-then-room-used : goal.returns-then-room-used
 returns-then-room-used c =
-    let b = c in
-    sym (placed_full _ _ _ (omega (arith, b.requires)) (omega arith))
+    sym (placed_full _ _ _ (omega (arith, c.requires)) (omega arith))
 
 pub overflow_cast-entries : goal.overflow_cast-entries
 overflow_cast-entries c = omega (arith, room_within c.args.entries.now)

@@ -17,8 +17,8 @@ returns-then-text-i c = c.loop-i.invariant.3 ∙ line_past _ _ _ c.if-text-i.tru
 pub loop-i-preserved : goal.loop-i-preserved
 loop-i-preserved c =
     elim c.if-text-i-eq10.branch [
-      then-text-i-eq10 w ↦ (omega arith, omega arith, omega arith, w.n-is ∙ ap (λ (k : ℕ). k + 1) c.loop-i.invariant.3 ∙ sym (line_more c.args.text.now c.loop-i.i (omega arith) w.if-text-i-eq10.true))
-    | else-text-i-eq10 w ↦ (omega arith, omega arith, omega arith, w.n-is ∙ c.loop-i.invariant.3 ∙ sym (line_same c.args.text.now c.loop-i.i (omega arith) w.if-text-i-eq10.false))
+      | then-text-i-eq10 w ↦ (omega arith, omega arith, omega arith, w.n-is ∙ ap (λ (k : ℕ). k + 1) c.loop-i.invariant.3 ∙ sym (line_more c.args.text.now c.loop-i.i (omega arith) w.if-text-i-eq10.true))
+      | else-text-i-eq10 w ↦ (omega arith, omega arith, omega arith, w.n-is ∙ c.loop-i.invariant.3 ∙ sym (line_same c.args.text.now c.loop-i.i (omega arith) w.if-text-i-eq10.false))
     ]
 
 pub returns : goal.returns
