@@ -4,7 +4,7 @@ use mathlib.Core.Logic.{◌⊎◌, inl, inr}
 use mathlib.Core.Bool.{Bool, true, false, cond, not, ◌&&◌, ◌||◌, and_comm}
 use mathlib.Core.List.Memᴰ
 use mathlib.Core.List.{List, [], ◌∷◌, ◌++◌, map}
-use Prim.Native.Nat.{ℕ, zero, suc, ◌+◌, ◌*◌, ◌/◌, ◌%◌, ◌-◌, ◌≤◌, ◌<◌}
+use Prim.Native.Nat.{ℕ, zero, suc, ◌+◌, ◌*◌, ◌-◌, ◌≤◌, ◌<◌}
 use native.Mathlib.Omega.{arith}
 use native.Mathlib.Nat.{suc-mul, mul-suc, mul-le-mul}
 use lib.Dec.{eqb, leb, ltb, leb-zero}
@@ -20,7 +20,7 @@ use Rattle.sets.proofs.Members.{members_length, sets_of_lem}
 use Rattle.percolation.specs.Links.{Link, joins, linked, clique, cliques, slot_sets, slots}
 use Rattle.percolation.proofs.SlotCount.{Slot, slot_of, slot_at, slots_distinct}
 use Rattle.percolation.proofs.Families.{linked_mono, cliques_mono}
-use Rattle.percolation.specs.Steps.{good_parts, rises, check_link, legal, enough, check_insert, accept, Step, insert, back, front, check_back, check_step, after_step, remaining_links, step_answers}
+use Rattle.percolation.specs.Steps.{good_parts, rises, check_link, legal, enough, check_insert, accept, Step, insert, back, front, check_step, after_step, remaining_links, step_answers}
 
 -- ---- 6 to 9
 

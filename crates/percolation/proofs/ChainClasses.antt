@@ -1,6 +1,6 @@
 -- The listing is that of the chain classes, and no other list is. Assumes nothing.
-use mathlib.Core.Path.{◌≡◌, refl, sym, ap, ap₂, ◌∙◌, subst, subst⁻¹}
-use mathlib.Core.Bool.{true, false}
+use mathlib.Core.Path.{◌≡◌, refl, sym, ap₂, ◌∙◌, subst, subst⁻¹}
+use mathlib.Core.Bool.{true}
 use mathlib.Core.List.Memᴰ
 use mathlib.Core.List.{List, [], ◌∷◌, map}
 use Prim.Native.Nat.{ℕ}
@@ -9,8 +9,8 @@ use Rattle.sets.specs.Sets.{has, before}
 use Rattle.sets.proofs.ListLaws.{Holds, rising_each, each_rising, rising_same}
 use Rattle.sets.proofs.Parts.{same_parts}
 use Rattle.sets.proofs.Order.{set_order}
-use Rattle.percolation.specs.Percolate.{adjacent, Chain, alone, Community, shown, communities, ChainListing}
-use Rattle.percolation.specs.Links.{Link, heavy, cliques, family, listing}
+use Rattle.percolation.specs.Percolate.{adjacent, Chain, Community, shown, communities, ChainListing}
+use Rattle.percolation.specs.Links.{Link, cliques, family, listing}
 use Rattle.percolation.proofs.Chains.{adjacent_sym, chain_sym, chain_trans}
 use Rattle.percolation.proofs.Communities.{communities_of, communities_rising, home, home_only, at_part, at_has}
 use Rattle.percolation.proofs.Levels.{heavy_zero}

@@ -12,7 +12,7 @@ use Rattle.sets.proofs.ListLaws.{all_of}
 use Rattle.percolation.specs.Percolate.{overlap, joined_by, Community, shown, listing_bytes}
 use Rattle.percolation.specs.Links.{Link, link, listing, slots, family, maximals}
 use Rattle.percolation.specs.Levels.{Meeting, met, never, meeting}
-use Rattle.percolation.specs.Steps.{Step, insert, back, remaining_links, step_answers}
+use Rattle.percolation.specs.Steps.{insert, remaining_links, step_answers}
 use Rattle.percolation.specs.Tree.{Line, line, tree, tree_bytes}
 use Rattle.percolation.specs.Mean.{family_links, Mean, mean, mean_of}
 use Rattle.percolation.specs.Strength.{weights_in, weakest_of, by_weakest, strong}

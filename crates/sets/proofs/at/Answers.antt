@@ -7,7 +7,6 @@ use Rattle.sets.specs.Words.{number, words_at}
 use Rattle.sets.specs.Value.{set_words, num, rows}
 use Rattle.sets.proofs.Tables.{row_in, row_past}
 use Rattle.sets.proofs.WordLists.{number_one}
-use borrow.Author.Rules.{rules}
 use Rattle.sets.proofs.at.Goals as goal
 
 -- the words of row i are those from i * set_words on

@@ -1,11 +1,9 @@
 use mathlib.Core.Path.{sym, ◌∙◌}
-use Prim.Native.Nat.{◌≤◌, ◌<◌, ◌+◌, ◌-◌, ◌^◌}
+use Prim.Native.Nat.{◌+◌}
 use native.Mathlib.Omega.{arith}
-use borrow.Author.Rules.{rules}
-use borrow.Author.Tests.{leb-true, not-true, not-false}
-use lib.ListN.{length}
-use Rattle.sets.specs.Value.{num, set_length}
-use Rattle.sets.proofs.SetBytes.{ReadTo, read_none, read_more, read_bound, read_word, read_all, read_few}
+use borrow.Author.Tests.{leb-true}
+use Rattle.sets.specs.Value.{num}
+use Rattle.sets.proofs.SetBytes.{read_none, read_more, read_bound, read_word, read_all, read_few}
 use Rattle.sets.proofs.from_bytes.Goals as goal
 
 pub returns-then-not-has_room : goal.returns-then-not-has_room

@@ -1,11 +1,7 @@
-use mathlib.Core.Path.{sym, ◌∙◌}
 use Prim.Native.Nat.{◌≤◌, ◌<◌, ◌+◌, ◌-◌, ◌^◌}
-use native.Mathlib.Omega.{arith}
-use borrow.Author.Rules.{rules}
-use borrow.Author.Tests.{leb-true, not-true, not-false}
 use lib.ListN.{length}
-use Rattle.sets.specs.Value.{num, set_length}
-use Rattle.sets.proofs.SetBytes.{ReadTo, read_none, read_more, read_bound, read_word, read_all, read_few}
+use Rattle.sets.specs.Value.{set_length}
+use Rattle.sets.proofs.SetBytes.{ReadTo}
 use Rattle.sets.proofs.from_bytes.Given as goal
 
 -- The invariant: the word is what the first i bytes from `at` on give. Assumes nothing.

@@ -4,7 +4,6 @@ use Rattle.sets.proofs.Laws.{has_above}
 use Rattle.sets.proofs.OneWord.{mask_has}
 use Rattle.sets.specs.Sets.{has}
 use Rattle.sets.specs.Value.{num, width}
-use borrow.Author.Rules.{rules}
 use Rattle.sets.proofs.has.Goals as goal
 
 pub returns-then-q-lt64 : goal.returns-then-q-lt64

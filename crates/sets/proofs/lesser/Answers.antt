@@ -1,6 +1,5 @@
 use mathlib.Core.Bool.{true, false}
 use Rattle.sets.proofs.Order.{lesser_is}
-use borrow.Author.Rules.{rules}
 use Rattle.sets.proofs.lesser.Goals as goal
 
 pub returns-then-less : goal.returns-then-less

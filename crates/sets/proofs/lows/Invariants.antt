@@ -1,13 +1,7 @@
-use mathlib.Core.Path.{◌≡◌, sym, ap, ap₂, ◌∙◌}
-use Prim.Native.Nat.{ℕ, suc, ◌≤◌, ◌<◌, ◌+◌, ◌-◌, ◌^◌}
-use native.Mathlib.Omega.{arith}
-use borrow.Author.Rules.{rules}
-use borrow.Author.Tests.{eqb-true}
+use mathlib.Core.Path.{◌≡◌}
+use Prim.Native.Nat.{◌≤◌, ◌<◌, ◌-◌, ◌^◌}
 use Rattle.sets.specs.Sets.{union, lows}
 use Rattle.sets.specs.Value.{width, num}
-use Rattle.sets.proofs.Held.{held}
-use Rattle.sets.proofs.Laws.{union_comm, union_empty}
-use Rattle.sets.proofs.LowParts.{lows_none, lows_empty, lows_turn}
 use Rattle.sets.proofs.lows.Given as goal
 
 -- The invariant: the parts taken, with the k - n lowest of the rest, are the k lowest of s. Assumes nothing.

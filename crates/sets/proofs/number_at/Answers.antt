@@ -1,7 +1,6 @@
 use mathlib.Core.Path.{sym, ◌∙◌}
 use Rattle.sets.proofs.RowNumbers.{number_is}
 use Rattle.sets.proofs.Held.{held}
-use borrow.Author.Rules.{rules}
 use Rattle.sets.proofs.number_at.Goals as goal
 
 pub returns : goal.returns

@@ -8,7 +8,6 @@ use Rattle.sets.specs.Words.{words}
 use Rattle.sets.specs.Value.{set_words, num, rows}
 use Rattle.sets.proofs.Held.{held_back}
 use Rattle.sets.proofs.Tables.{store_in, store_past}
-use borrow.Author.Rules.{rules}
 use Rattle.sets.proofs.put.Goals as goal
 
 -- the words of row i are those from i * set_words on

@@ -1,11 +1,9 @@
-use mathlib.Core.Path.{◌≡◌, refl, sym, ◌∙◌}
-use Prim.Native.Nat.{◌≤◌, ◌+◌, ◌-◌}
+use mathlib.Core.Path.{refl, sym, ◌∙◌}
 use native.Mathlib.Omega.{arith}
-use borrow.Author.Rules.{rules}
-use borrow.Author.Tests.{leb-true, not-true, not-false}
-use lib.ListN.{length, length-set}
-use lib.Seq.{paste, paste-zero}
-use Rattle.sets.specs.Value.{num, set_bytes, set_length}
+use borrow.Author.Tests.{leb-true}
+use lib.ListN.{length-set}
+use lib.Seq.{paste-zero}
+use Rattle.sets.specs.Value.{num, set_bytes}
 use Rattle.sets.proofs.SetBytes.{put_none, put_more, put_all}
 use Rattle.sets.proofs.put_bytes.Goals as goal
 

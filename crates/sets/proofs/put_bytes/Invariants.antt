@@ -1,12 +1,8 @@
-use mathlib.Core.Path.{◌≡◌, refl, sym, ◌∙◌}
+use mathlib.Core.Path.{◌≡◌}
 use Prim.Native.Nat.{◌≤◌, ◌+◌, ◌-◌}
-use native.Mathlib.Omega.{arith}
-use borrow.Author.Rules.{rules}
-use borrow.Author.Tests.{leb-true, not-true, not-false}
-use lib.ListN.{length, length-set}
-use lib.Seq.{paste, paste-zero}
-use Rattle.sets.specs.Value.{num, set_bytes, set_length}
-use Rattle.sets.proofs.SetBytes.{put_none, put_more, put_all}
+use lib.ListN.{length}
+use lib.Seq.{paste}
+use Rattle.sets.specs.Value.{set_bytes, set_length}
 use Rattle.sets.proofs.put_bytes.Given as goal
 
 -- The invariant: the first i bytes of the set stand from `at` on, and all else is as it was. Assumes nothing.

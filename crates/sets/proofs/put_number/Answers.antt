@@ -2,7 +2,6 @@ use mathlib.Core.Path.{◌≡◌, ap, ◌∙◌}
 use mathlib.Core.List.{List}
 use Prim.Native.Nat.{ℕ}
 use Rattle.sets.specs.Value.{store}
-use borrow.Author.Rules.{rules}
 use Rattle.sets.proofs.put_number.Goals as goal
 
 put_is : (xs ys : List ℕ) (i m n : ℕ) → ys ≡ store xs i m → m ≡ n → ys ≡ store xs i n

@@ -2,7 +2,6 @@ use Rattle.sets.proofs.OneWord.{shift_one}
 use borrow.Author.Tests.{lt-ltb, le-ltb}
 use Rattle.sets.specs.Sets.{one}
 use Rattle.sets.specs.Value.{num}
-use borrow.Author.Rules.{rules}
 use Rattle.sets.proofs.single.Goals as goal
 
 pub returns-then-q-lt64 : goal.returns-then-q-lt64

@@ -3,7 +3,6 @@ use lib.Pow.{pow_pos}
 use Rattle.sets.proofs.OneWord.{shift_one, shift_full, word_full}
 use Rattle.sets.specs.Sets.{one}
 use Rattle.sets.specs.Value.{num}
-use borrow.Author.Rules.{rules}
 use Rattle.sets.proofs.upto.Goals as goal
 
 pub overflow_sub-word : goal.overflow_sub-word

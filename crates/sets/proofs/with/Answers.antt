@@ -2,7 +2,6 @@ use mathlib.Core.Path.{ap, ◌∙◌}
 use Rattle.sets.proofs.Laws.{union_single}
 use Rattle.sets.specs.Sets.{union}
 use Rattle.sets.specs.Value.{num, width}
-use borrow.Author.Rules.{rules}
 use Rattle.sets.proofs.with.Goals as goal
 
 pub returns : goal.returns

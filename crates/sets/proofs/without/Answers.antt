@@ -3,7 +3,6 @@ use Rattle.sets.proofs.Held.{held}
 use Rattle.sets.proofs.Laws.{minus_single}
 use Rattle.sets.specs.Sets.{minus}
 use Rattle.sets.specs.Value.{num, width}
-use borrow.Author.Rules.{rules}
 use Rattle.sets.proofs.without.Goals as goal
 
 pub returns : goal.returns

@@ -1,8 +1,4 @@
 use native.Mathlib.Omega.{arith}
-use borrow.Author.Rules.{rules}
-use Prim.Native.Nat.{◌≤◌, ◌-◌}
-use lib.ListN.{length}
-use Rattle.words.specs.Lines.{words, WordAt}
 use Rattle.words.proofs.WordLaws.{word_zero, word_there, word_past}
 use Rattle.words.proofs.count_words.Goals as goal
 

@@ -1,6 +1,5 @@
 use mathlib.Core.Bool.{true≢false}
 use mathlib.Core.Path.{sym, ap, ◌∙◌}
-use borrow.Author.Rules.{rules}
 use Rattle.words.specs.Lines.{comment}
 use Rattle.words.proofs.Said.{says_nothing, says_comment, says_part, says_link, says_neither}
 use Rattle.words.proofs.form_of.Goals as goal

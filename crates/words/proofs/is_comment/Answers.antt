@@ -1,5 +1,4 @@
 use native.Mathlib.Omega.{arith}
-use borrow.Author.Rules.{rules}
 use Rattle.words.proofs.Said.{comment_some, comment_none}
 use Rattle.words.proofs.is_comment.Goals as goal
 

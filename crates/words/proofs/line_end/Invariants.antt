@@ -1,11 +1,8 @@
-use mathlib.Core.Path.{sym, refl, ◌∙◌, ◌≡◌}
-use native.Mathlib.Omega.{arith}
-use borrow.Author.Tests.{eq-eqb, ne_eqb}
-use borrow.Author.Rules.{rules}
+use mathlib.Core.Path.{◌≡◌}
 use Prim.Native.Nat.{◌-◌}
 use lib.Dec.{eqb}
 use lib.ListN.{length}
-use Rattle.words.proofs.Pieces.{stop, scan_stop, scan_on, scan_end}
+use Rattle.words.proofs.Pieces.{stop}
 use Rattle.words.proofs.line_end.Given as goal
 
 abbrev pub invariant-loop-i : goal.invariant-loop-i

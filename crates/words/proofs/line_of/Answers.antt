@@ -1,8 +1,6 @@
-use mathlib.Core.Path.{sym, ap, ◌∙◌, ◌≡◌}
+use mathlib.Core.Path.{sym, ap, ◌∙◌}
 use native.Mathlib.Omega.{arith}
-use borrow.Author.Rules.{rules}
-use Prim.Native.Nat.{ℕ, ◌+◌, ◌≤◌, ◌-◌}
-use lib.ListN.{length}
+use Prim.Native.Nat.{ℕ, ◌+◌}
 use Rattle.words.specs.Lines.{line_of}
 use Rattle.words.proofs.Lines.{line_one, line_more, line_same, line_past}
 use Rattle.words.proofs.line_of.Goals as goal

@@ -1,11 +1,7 @@
-use mathlib.Core.Logic.{⊎_elim}
-use mathlib.Core.Path.{sym, ap, ◌∙◌, ◌≡◌}
-use native.Mathlib.Omega.{arith}
-use borrow.Author.Rules.{rules}
-use Prim.Native.Nat.{ℕ, ◌+◌, ◌≤◌, ◌-◌}
+use mathlib.Core.Path.{◌≡◌}
+use Prim.Native.Nat.{◌+◌, ◌≤◌, ◌-◌}
 use lib.ListN.{length}
 use Rattle.words.specs.Lines.{line_of}
-use Rattle.words.proofs.Lines.{line_one, line_more, line_same, line_past}
 use Rattle.words.proofs.line_of.Given as goal
 
 abbrev pub invariant-loop-i : goal.invariant-loop-i

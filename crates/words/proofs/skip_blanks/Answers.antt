@@ -1,10 +1,7 @@
 use mathlib.Core.Bool.{not}
-use mathlib.Core.Path.{sym, refl, ap, ◌∙◌, ◌≡◌}
+use mathlib.Core.Path.{sym, refl, ap, ◌∙◌}
 use native.Mathlib.Omega.{arith}
-use borrow.Author.Rules.{rules}
-use Prim.Native.Nat.{◌≤◌, ◌-◌}
-use lib.ListN.{length}
-use Rattle.words.proofs.Pieces.{stop, scan_stop, scan_on, scan_end}
+use Rattle.words.proofs.Pieces.{scan_stop, scan_on, scan_end}
 use Rattle.words.proofs.WordLaws.{printed}
 use Rattle.words.proofs.skip_blanks.Goals as goal
 

@@ -1,10 +1,7 @@
-use mathlib.Core.Bool.{not}
-use mathlib.Core.Path.{sym, refl, ap, ◌∙◌, ◌≡◌}
-use native.Mathlib.Omega.{arith}
-use borrow.Author.Rules.{rules}
+use mathlib.Core.Path.{◌≡◌}
 use Prim.Native.Nat.{◌≤◌, ◌-◌}
 use lib.ListN.{length}
-use Rattle.words.proofs.Pieces.{stop, scan_stop, scan_on, scan_end}
+use Rattle.words.proofs.Pieces.{stop}
 use Rattle.words.proofs.WordLaws.{printed}
 use Rattle.words.proofs.skip_blanks.Given as goal
 

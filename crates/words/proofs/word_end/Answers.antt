@@ -1,9 +1,6 @@
-use mathlib.Core.Path.{sym, ap, ◌∙◌, ◌≡◌}
+use mathlib.Core.Path.{sym, ap, ◌∙◌}
 use native.Mathlib.Omega.{arith}
 use native.Mathlib.Numerals.{add-one}
-use borrow.Author.Rules.{rules}
-use Prim.Native.Nat.{suc, ◌<◌, ◌≤◌, ◌-◌}
-use lib.ListN.{length}
 use Rattle.words.specs.Lines.{blank}
 use Rattle.words.proofs.Pieces.{stop, scan_stop, scan_on, scan_end}
 use Rattle.words.proofs.word_end.Goals as goal

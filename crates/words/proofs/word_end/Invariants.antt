@@ -1,11 +1,8 @@
-use mathlib.Core.Path.{sym, ap, ◌∙◌, ◌≡◌}
-use native.Mathlib.Omega.{arith}
-use native.Mathlib.Numerals.{add-one}
-use borrow.Author.Rules.{rules}
+use mathlib.Core.Path.{◌≡◌}
 use Prim.Native.Nat.{suc, ◌<◌, ◌≤◌, ◌-◌}
 use lib.ListN.{length}
 use Rattle.words.specs.Lines.{blank}
-use Rattle.words.proofs.Pieces.{stop, scan_stop, scan_on, scan_end}
+use Rattle.words.proofs.Pieces.{stop}
 use Rattle.words.proofs.word_end.Given as goal
 
 abbrev pub invariant-loop-i : goal.invariant-loop-i

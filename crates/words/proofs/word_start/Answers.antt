@@ -1,7 +1,6 @@
 use mathlib.Core.Path.{◌≡◌, subst}
 use native.Mathlib.Omega.{arith}
-use borrow.Author.Rules.{rules}
-use Prim.Native.Nat.{ℕ, ◌≤◌, ◌-◌}
+use Prim.Native.Nat.{ℕ}
 use Rattle.words.specs.Lines.{WordAt}
 use Rattle.words.proofs.WordLaws.{word_zero, word_beyond}
 use Rattle.words.proofs.word_start.Goals as goal
