@@ -41,7 +41,7 @@ extern "C" {
 #endif
 
 /* The number of the latest change request that has landed, in order of landing; 0: the base. */
-#define FAMILIES_EDITION 9
+#define FAMILIES_EDITION 8
 
 /* On a refusal count and parts are 0. parts is 0 from every call but families_read. */
 typedef struct {

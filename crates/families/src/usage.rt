@@ -11,7 +11,6 @@ fn lines(fd: i32) {
     io::write_all(fd, b"  families strong K product X SHEET\n");
     io::write_all(fd, b"  families strong K weakest T SHEET\n");
     io::write_all(fd, b"  families tree K SHEET\n");
-    io::write_all(fd, b"  families page K SHEET\n");
     io::write_all(fd, b"  families meet K NAME.. -- NAME.. SHEET\n");
     io::write_all(fd, b"  families slots K T SHEET\n");
     io::write_all(fd, b"  families fullest P K > SHEET\n");

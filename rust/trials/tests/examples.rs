@@ -208,10 +208,11 @@ fn bounds_and_words() {
     assert_eq!(subset_count(65, 5), 0);
     let words = |number| Refused { number, place: 36 }.to_string();
     assert_eq!(words(9), "refused 9 at 36: pair given before");
-    let mut sentences: Vec<String> = (1..=24).map(words).collect();
+    let mut sentences: Vec<String> = (1..=23).map(words).collect();
     sentences.sort();
     sentences.dedup();
-    assert_eq!(sentences.len(), 24);
+    assert_eq!(sentences.len(), 23);
+    assert!(!sentences.contains(&words(24)) && !words(24).contains("without a meaning"));
     assert!(!sentences.iter().any(|s| s.contains("without a meaning")));
 }
 

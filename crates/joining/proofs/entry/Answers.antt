@@ -2,7 +2,6 @@ use mathlib.Core.Path.{sym}
 use native.Mathlib.Omega.{arith}
 use lib.ListN.{get_or-eq_default}
 use Rattle.sets.proofs.ListLaws.{get_d_in}
-use borrow.Author.Rules.{rules}
 use Rattle.joining.proofs.entry.Goals as goal
 
 pub overflow_cast-result : goal.overflow_cast-result

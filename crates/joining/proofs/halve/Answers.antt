@@ -1,8 +1,5 @@
 use native.Mathlib.Omega.{arith}
-use Prim.Native.Nat.{◌<◌}
-use lib.ListN.{length}
-use borrow.Author.Rules.{rules}
-use Rattle.joining.proofs.Walk.{falls_inside, Halving, halving_begin, halving_stop, halving_last, halving_turn}
+use Rattle.joining.proofs.Walk.{falls_inside, halving_begin, halving_stop, halving_last, halving_turn}
 use Rattle.joining.proofs.halve.Goals as goal
 
 pub loop-r-init : goal.loop-r-init

@@ -1,8 +1,4 @@
-use native.Mathlib.Omega.{arith}
-use Prim.Native.Nat.{◌<◌}
-use lib.ListN.{length}
-use borrow.Author.Rules.{rules}
-use Rattle.joining.proofs.Walk.{falls_inside, Halving, halving_begin, halving_stop, halving_last, halving_turn}
+use Rattle.joining.proofs.Walk.{Halving}
 use Rattle.joining.proofs.halve.Given as goal
 
 -- The invariant: what is left to halve gives what the whole gives, and the slot reached has the root of the slot begun at (`Halving`).

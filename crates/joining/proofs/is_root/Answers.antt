@@ -1,4 +1,3 @@
-use borrow.Author.Rules.{rules}
 use Rattle.joining.proofs.Follow.{root_test}
 use Rattle.joining.proofs.is_root.Goals as goal
 

@@ -1,8 +1,5 @@
-use Prim.Native.Nat.{◌≤◌}
-use mathlib.Core.Path.{◌≡◌, refl}
+use mathlib.Core.Path.{refl}
 use native.Mathlib.Omega.{arith}
-use borrow.Author.Rules.{rules}
-use Rattle.joining.specs.Entries.{root_of}
 use Rattle.joining.proofs.Walk.{walk_next, walk_end}
 use Rattle.joining.proofs.root.Goals as goal
 

@@ -1,9 +1,6 @@
 use Prim.Native.Nat.{◌≤◌}
-use mathlib.Core.Path.{◌≡◌, refl}
-use native.Mathlib.Omega.{arith}
-use borrow.Author.Rules.{rules}
+use mathlib.Core.Path.{◌≡◌}
 use Rattle.joining.specs.Entries.{root_of}
-use Rattle.joining.proofs.Walk.{walk_next, walk_end}
 use Rattle.joining.proofs.root.Given as goal
 
 -- The invariant: the slot reached has the root of the slot begun at. Assumes nothing.

@@ -1,12 +1,6 @@
-use mathlib.Core.Logic.{◌⊎◌, inl, inr}
-use mathlib.Core.Path.{◌≡◌, subst, sym}
-use Prim.Native.Nat.{ℕ, ◌≤◌, ◌<◌, ◌+◌, ◌-◌}
-use native.Mathlib.Omega.{arith}
+use Prim.Native.Nat.{ℕ, ◌≤◌, ◌<◌, ◌-◌}
 use mathlib.Core.List.{List}
 use lib.ListN.{get_or}
-use borrow.Author.Rules.{rules}
-use Rattle.sets.proofs.Tests.{same_or_not}
-use Rattle.joining.proofs.Walk.{entry_read, steady_yes, steady_not}
 use Rattle.joining.proofs.steady.Given as goal
 
 -- The invariant: no entry below i is above its slot. Assumes nothing.
