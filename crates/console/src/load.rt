@@ -2,29 +2,36 @@
 ghost use Rattle.console.specs.Loading.{Within};
 
 use crate::Loaded;
+use crate::args::{arg, arg_count};
+use crate::say::{fail, fail_as};
+use std::env::Env;
+use std::fs;
+use std::fs::Files;
+use std::io::Read;
 
 // Reads once into buf, from n on: how many bytes came. That it failed is told by the input's name.
-pub fn read_on(fd: i32, name: &[u8], buf: &mut [u8], n: usize) -> Loaded
+pub fn read_on(from: &mut impl Read, name: &[u8], buf: &mut [u8], n: usize) -> Loaded
     ensures { Within n result buf.new }
 {
     if buf.len() < n {
         return Loaded::Failed;
     }
-    let got = libc::read(fd, &mut buf[n..]);
-    if got < 0 {
-        os::fail(name);
-        return Loaded::Failed;
+    match from.read(&mut buf[n..]) {
+        Ok(got) => Loaded::Bytes(got),
+        Err(e) => {
+            fail(name, e);
+            Loaded::Failed
+        }
     }
-    Loaded::Bytes(io::count(got, &buf[n..]))
 }
 
 // All of the input as far as buf has room.
-pub fn read(fd: i32, name: &[u8], buf: &mut [u8]) -> Loaded
+pub fn read(from: &mut impl Read, name: &[u8], buf: &mut [u8]) -> Loaded
     ensures { Within 0 result buf.new }
 {
     let mut n = 0;
     while n < buf.len() {
-        let Loaded::Bytes(more) = read_on(fd, name, buf, n) else {
+        let Loaded::Bytes(more) = read_on(from, name, buf, n) else {
             return Loaded::Failed;
         };
         if more == 0 {
@@ -35,32 +42,33 @@ pub fn read(fd: i32, name: &[u8], buf: &mut [u8]) -> Loaded
     Loaded::Bytes(n)
 }
 
-fn read_file(path: &[u8], buf: &mut [u8]) -> Loaded
+fn read_file(rt: &impl Files, path: &[u8], buf: &mut [u8]) -> Loaded
     ensures { Within 0 result buf.new }
 {
-    let fd = os::open_read(path);
-    if fd < 0 {
-        os::fail(path);
+    let Ok(text) = str::from_utf8(path) else {
+        fail_as(path, b"the name is not UTF-8");
         return Loaded::Failed;
+    };
+    match fs::open(rt, text) {
+        Ok(mut file) => read(&mut file, path, buf),
+        Err(e) => {
+            fail(path, e);
+            Loaded::Failed
+        }
     }
-    let loaded = read(fd, path, buf);
-    libc::close(fd);
-    loaded
 }
 
 // The file that the last argument names.
-pub fn last_file(buf: &mut [u8]) -> Loaded
+pub fn last_file(rt: &(impl Env + Files), buf: &mut [u8]) -> Loaded
     ensures { Within 0 result buf.new }
 {
-    let count = os::arg_count();
+    let count = arg_count(rt);
     if count == 0 {
         return Loaded::Failed;
     }
     let mut path = io::buffer();
-    let n = os::arg(count - 1, &mut path);
-    if os::errno() != 0 {
-        os::fail(b"SHEET");
+    let Loaded::Bytes(n) = arg(rt, count - 1, b"SHEET", &mut path) else {
         return Loaded::Failed;
-    }
-    read_file(&path[..n], buf)
+    };
+    read_file(rt, &path[..n], buf)
 }

@@ -2,6 +2,8 @@
 use crate::typed::{Number, decimal};
 use crate::usage::wrong;
 use check::same;
+use console::arg_count;
+use std::env::Env;
 
 // A command with k and the threshold as it takes them; Fullest has the part count before k, Meet the place of `--` among the arguments, Mean names from
 // argument 4 on.
@@ -36,28 +38,28 @@ fn nothing(what: &[u8]) -> Order {
     Order::Nothing
 }
 
-fn number_at(i: usize) -> Number {
+fn number_at(rt: &impl Env, i: usize) -> Number {
     let mut word = [0u8; 64];
-    let n = os::arg(i, &mut word);
+    let n = rt.arg(i, &mut word).unwrap_or(0);
     decimal(&word[..n])
 }
 
 // Whether argument i is this word of at most 15 bytes.
-fn is_word(i: usize, wanted: &[u8]) -> bool {
+fn is_word(rt: &impl Env, i: usize, wanted: &[u8]) -> bool {
     let mut word = [0u8; 16];
-    let n = os::arg(i, &mut word);
+    let n = rt.arg(i, &mut word).unwrap_or(0);
     same(&word[..n], wanted)
 }
 
-fn is_dashes(i: usize) -> bool {
-    is_word(i, b"--")
+fn is_dashes(rt: &impl Env, i: usize) -> bool {
+    is_word(rt, i, b"--")
 }
 
 // The first of the arguments from `from` to before `to` that is `--`; `to` where none is.
-fn dashes(from: usize, to: usize) -> usize {
+fn dashes(rt: &impl Env, from: usize, to: usize) -> usize {
     let mut i = from;
     while i < to {
-        if is_dashes(i) {
+        if is_dashes(rt, i) {
             return i;
         }
         i += 1;
@@ -87,8 +89,8 @@ fn show(count: usize) -> Order {
 }
 
 // K at argument i; that it is no number is told.
-fn k_at(i: usize) -> Number {
-    let k = number_at(i);
+fn k_at(rt: &impl Env, i: usize) -> Number {
+    let k = number_at(rt, i);
     if let Number::Not = k {
         wrong(b"K must be a number, 2 to 6");
     }
@@ -96,11 +98,11 @@ fn k_at(i: usize) -> Number {
 }
 
 // K at argument i and T at argument j, or what is wrong with them told.
-fn k_and_t(i: usize, j: usize) -> KT {
-    let Number::Is(k) = k_at(i) else {
+fn k_and_t(rt: &impl Env, i: usize, j: usize) -> KT {
+    let Number::Is(k) = k_at(rt, i) else {
         return KT::Not;
     };
-    let t = threshold(number_at(j));
+    let t = threshold(number_at(rt, j));
     if 65535 < t {
         wrong(b"T must be a number, 0 to 65535");
         return KT::Not;
@@ -116,41 +118,41 @@ fn threshold(t: Number) -> usize {
     }
 }
 
-fn plain_listing(count: usize) -> Order {
+fn plain_listing(rt: &impl Env, count: usize) -> Order {
     if count != 5 {
         return nothing(b"listing takes K, T and a sheet, with --by-mean before them or not");
     }
-    match k_and_t(2, 3) {
+    match k_and_t(rt, 2, 3) {
         KT::Are(k, t) => Order::Listing(k, t),
         KT::Not => Order::Nothing,
     }
 }
 
-fn listing(count: usize) -> Order {
+fn listing(rt: &impl Env, count: usize) -> Order {
     if count != 6 {
-        return plain_listing(count);
+        return plain_listing(rt, count);
     }
-    if !is_word(2, b"--by-mean") {
+    if !is_word(rt, 2, b"--by-mean") {
         return nothing(b"listing takes K, T and a sheet, with --by-mean before them or not");
     }
-    match k_and_t(3, 4) {
+    match k_and_t(rt, 3, 4) {
         KT::Are(k, t) => Order::ByMean(k, t),
         KT::Not => Order::Nothing,
     }
 }
 
-fn mean(count: usize) -> Order {
+fn mean(rt: &impl Env, count: usize) -> Order {
     if count < 6 {
         return nothing(b"mean takes K, T, names and a sheet");
     }
-    match k_and_t(2, 3) {
+    match k_and_t(rt, 2, 3) {
         KT::Are(k, t) => Order::Mean(k, t),
         KT::Not => Order::Nothing,
     }
 }
 
-fn by_weakest() -> Order {
-    match k_and_t(2, 4) {
+fn by_weakest(rt: &impl Env) -> Order {
+    match k_and_t(rt, 2, 4) {
         KT::Are(k, t) => Order::Weakest(k, t),
         KT::Not => Order::Nothing,
     }
@@ -165,101 +167,101 @@ fn whole(x: Number) -> usize {
 }
 
 // Up to 2^53 a float holds each whole number.
-fn by_product() -> Order {
-    let Number::Is(k) = k_at(2) else {
+fn by_product(rt: &impl Env) -> Order {
+    let Number::Is(k) = k_at(rt, 2) else {
         return Order::Nothing;
     };
-    let x = whole(number_at(4));
+    let x = whole(number_at(rt, 4));
     if 9007199254740992 < x {
         return nothing(b"X must be a whole number, 0 to 9007199254740992");
     }
     Order::Product(k, x)
 }
 
-fn strong(count: usize) -> Order {
+fn strong(rt: &impl Env, count: usize) -> Order {
     if count == 6 {
-        if is_word(3, b"product") {
-            return by_product();
+        if is_word(rt, 3, b"product") {
+            return by_product(rt);
         }
-        if is_word(3, b"weakest") {
-            return by_weakest();
+        if is_word(rt, 3, b"weakest") {
+            return by_weakest(rt);
         }
     }
     nothing(b"strong takes K, product X or weakest T, and a sheet")
 }
 
 // K of a command that takes K and a sheet; what is wrong is told.
-fn k_before_sheet(count: usize, what: &[u8]) -> Number {
+fn k_before_sheet(rt: &impl Env, count: usize, what: &[u8]) -> Number {
     if count != 4 {
         wrong(what);
         return Number::Not;
     }
-    k_at(2)
+    k_at(rt, 2)
 }
 
-fn tree(count: usize) -> Order {
-    match k_before_sheet(count, b"tree takes K and a sheet") {
+fn tree(rt: &impl Env, count: usize) -> Order {
+    match k_before_sheet(rt, count, b"tree takes K and a sheet") {
         Number::Is(k) => Order::Tree(k),
         Number::Not => Order::Nothing,
     }
 }
 
-fn page(count: usize) -> Order {
-    match k_before_sheet(count, b"page takes K and a sheet") {
+fn page(rt: &impl Env, count: usize) -> Order {
+    match k_before_sheet(rt, count, b"page takes K and a sheet") {
         Number::Is(k) => Order::Page(k),
         Number::Not => Order::Nothing,
     }
 }
 
-fn meet(count: usize) -> Order {
+fn meet(rt: &impl Env, count: usize) -> Order {
     if count < 5 {
         return nothing(b"meet takes K, names, --, names and a sheet");
     }
-    let Number::Is(k) = k_at(2) else {
+    let Number::Is(k) = k_at(rt, 2) else {
         return Order::Nothing;
     };
     let last = count - 1;
-    let middle = dashes(3, last);
+    let middle = dashes(rt, 3, last);
     if middle == last {
         return nothing(b"meet takes -- between the names of the two cliques");
     }
     Order::Meet(k, middle)
 }
 
-fn slots(count: usize) -> Order {
+fn slots(rt: &impl Env, count: usize) -> Order {
     if count != 5 {
         return nothing(b"slots takes K, T and a sheet");
     }
-    match k_and_t(2, 3) {
+    match k_and_t(rt, 2, 3) {
         KT::Are(k, t) => Order::Slots(k, t),
         KT::Not => Order::Nothing,
     }
 }
 
-fn fullest(count: usize) -> Order {
+fn fullest(rt: &impl Env, count: usize) -> Order {
     if count != 4 {
         return nothing(b"fullest takes P and K: it writes a sheet");
     }
-    let Number::Is(p) = number_at(2) else {
+    let Number::Is(p) = number_at(rt, 2) else {
         return nothing(b"P must be a number, 1 to 64");
     };
-    let Number::Is(k) = k_at(3) else {
+    let Number::Is(k) = k_at(rt, 3) else {
         return Order::Nothing;
     };
     Order::Fullest(p, k)
 }
 
-fn live(count: usize) -> Order {
+fn live(rt: &impl Env, count: usize) -> Order {
     if count != 3 {
         return nothing(b"live takes K: it answers lines of standard input");
     }
-    let Number::Is(k) = k_at(2) else {
+    let Number::Is(k) = k_at(rt, 2) else {
         return Order::Nothing;
     };
     Order::Live(k)
 }
 
-fn command(word: &[u8], count: usize) -> Order {
+fn command(rt: &impl Env, word: &[u8], count: usize) -> Order {
     if same(word, b"help") {
         return Order::Help;
     }
@@ -273,41 +275,41 @@ fn command(word: &[u8], count: usize) -> Order {
         return show(count);
     }
     if same(word, b"listing") {
-        return listing(count);
+        return listing(rt, count);
     }
     if same(word, b"mean") {
-        return mean(count);
+        return mean(rt, count);
     }
     if same(word, b"strong") {
-        return strong(count);
+        return strong(rt, count);
     }
     if same(word, b"tree") {
-        return tree(count);
+        return tree(rt, count);
     }
     if same(word, b"page") {
-        return page(count);
+        return page(rt, count);
     }
     if same(word, b"meet") {
-        return meet(count);
+        return meet(rt, count);
     }
     if same(word, b"slots") {
-        return slots(count);
+        return slots(rt, count);
     }
     if same(word, b"fullest") {
-        return fullest(count);
+        return fullest(rt, count);
     }
     if same(word, b"live") {
-        return live(count);
+        return live(rt, count);
     }
     nothing(b"no such command")
 }
 
-pub fn asked() -> Order {
-    let count = os::arg_count();
+pub fn asked(rt: &impl Env) -> Order {
+    let count = arg_count(rt);
     if count < 2 {
         return Order::Help;
     }
     let mut word = [0u8; 16];
-    let n = os::arg(1, &mut word);
-    command(&word[..n], count)
+    let n = rt.arg(1, &mut word).unwrap_or(0);
+    command(rt, &word[..n], count)
 }

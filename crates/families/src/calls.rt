@@ -98,13 +98,13 @@ fn result(call: Call, s: &[u8], out: &mut [u8; SPACE]) -> Answer {
     }
 }
 
-fn print(call: Call, s: &[u8], out: &[u8], n: usize) {
+fn print(rt: &impl Print, call: Call, s: &[u8], out: &[u8], n: usize) {
     match call {
-        Call::Listing(k, t) => report::families(s, k, t, out, n),
-        Call::ByMean(k, t) => report::by_mean(s, k, t, out, n),
-        Call::Tree(k) => report::tree(s, k, out, n),
-        Call::Page(_) => paper::print(s, out, n),
-        Call::Meet(_, _, _) => meet::print(n),
+        Call::Listing(k, t) => report::families(rt, s, k, t, out, n),
+        Call::ByMean(k, t) => report::by_mean(rt, s, k, t, out, n),
+        Call::Tree(k) => report::tree(rt, s, k, out, n),
+        Call::Page(_) => paper::print(rt, s, out, n),
+        Call::Meet(_, _, _) => meet::print(rt, n),
     }
 }
 
@@ -119,15 +119,15 @@ fn refuse(call: Call, s: &[u8], n: u8, place: usize) {
     }
 }
 
-fn answer(call: Call, s: &[u8], out: &mut [u8; SPACE]) {
+fn answer(rt: &impl Print, call: Call, s: &[u8], out: &mut [u8; SPACE]) {
     match result(call, s, out) {
-        Answer::Count(n) => print(call, s, out, n),
+        Answer::Count(n) => print(rt, call, s, out, n),
         Answer::Refused(n, place) => refuse(call, s, n, place),
     }
 }
 
 // The space is lent as an array, whose length its type says: the checker would count to it.
-pub fn ask(call: Call, s: &[u8]) {
+pub fn ask(rt: &impl Print, call: Call, s: &[u8]) {
     let mut out = [0u8; SPACE];
-    answer(call, s, &mut out);
+    answer(rt, call, s, &mut out);
 }

@@ -1,7 +1,8 @@
 // Cliques that are given by the names of their parts.
-use console::error_of;
+use console::{Loaded, arg, error_of};
 use report::find;
 use sets::Set;
+use std::env::Env;
 
 #[derive(Clone, Copy)]
 enum Named {
@@ -26,22 +27,20 @@ fn part(s: &[u8], p: usize, word: &[u8]) -> Named {
 }
 
 // The part that argument i names.
-fn part_of(s: &[u8], p: usize, i: usize) -> Named {
+fn part_of(rt: &impl Env, s: &[u8], p: usize, i: usize) -> Named {
     let mut word = io::buffer();
-    let n = os::arg(i, &mut word);
-    if os::errno() != 0 {
-        os::fail(b"NAME");
+    let Loaded::Bytes(n) = arg(rt, i, b"NAME", &mut word) else {
         return Named::Nobody;
-    }
+    };
     part(s, p, &word[..n])
 }
 
 // The parts that the arguments from `from` to before `to` name.
-pub fn clique_of(s: &[u8], p: usize, from: usize, to: usize) -> Clique {
+pub fn clique_of(rt: &impl Env, s: &[u8], p: usize, from: usize, to: usize) -> Clique {
     let mut set = sets::empty();
     let mut i = from;
     while i < to {
-        match part_of(s, p, i) {
+        match part_of(rt, s, p, i) {
             Named::Part(q) => set = sets::with(set, q),
             Named::Nobody => return Clique::Unknown,
         }

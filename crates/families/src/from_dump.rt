@@ -4,6 +4,8 @@ use crate::pack::put_out;
 use answers::Answer;
 use console::{Loaded, error, error_field, refused};
 use report::tell;
+use std::env::Env;
+use std::fs::Files;
 
 // The length: of a dump that is too long for any count no more is read than shows it.
 fn length_words(place: usize) {
@@ -47,37 +49,37 @@ fn tell_sums(d: &[u8], sheet: &[u8]) {
     error(b"\n");
 }
 
-fn put_sheet(d: &[u8], out: &[u8], n: usize) {
-    put_out(out, n);
+fn put_sheet(rt: &impl Print, d: &[u8], out: &[u8], n: usize) {
+    put_out(rt, out, n);
     if n <= out.len() {
         tell_sums(d, &out[0..n]);
     }
 }
 
-fn make(d: &[u8]) {
+fn make(rt: &impl Print, d: &[u8]) {
     let mut out = [0u8; LARGEST_SHEET];
     match dump::sheet(d, &mut out) {
-        Answer::Count(n) => put_sheet(d, &out, n),
+        Answer::Count(n) => put_sheet(rt, d, &out, n),
         Answer::Refused(n, place) => tell_dump(d, n, place),
     }
 }
 
 // Reads into buf, which has a byte more than a dump may have.
-fn make_from(buf: &mut [u8]) {
-    let Loaded::Bytes(n) = console::last_file(buf) else {
+fn make_from(rt: &(impl Env + Files + Print), buf: &mut [u8]) {
+    let Loaded::Bytes(n) = console::last_file(rt, buf) else {
         return;
     };
     if n <= buf.len() {
-        make(&buf[0..n]);
+        make(rt, &buf[0..n]);
     }
 }
 
 // The space is lent as an array, whose length its type says: the checker would count to it.
-fn in_array(buf: &mut [u8; DUMP_SPACE]) {
-    make_from(buf);
+fn in_array(rt: &(impl Env + Files + Print), buf: &mut [u8; DUMP_SPACE]) {
+    make_from(rt, buf);
 }
 
-pub fn from_dump() {
+pub fn from_dump(rt: &(impl Env + Files + Print)) {
     let mut buf = [0u8; DUMP_SPACE];
-    in_array(&mut buf);
+    in_array(rt, &mut buf);
 }

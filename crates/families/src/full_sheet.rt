@@ -4,10 +4,10 @@ use crate::pack::put_out;
 use answers::Answer;
 use report::tell;
 
-pub fn write(p: usize, k: usize) {
+pub fn write(rt: &impl Print, p: usize, k: usize) {
     let mut out = [0u8; LARGEST_SHEET];
     match fullest::sheet(p, k, &mut out) {
-        Answer::Count(n) => put_out(&out, n),
+        Answer::Count(n) => put_out(rt, &out, n),
         Answer::Refused(n, place) => tell(&out, n, place),
     }
 }

@@ -23,29 +23,29 @@ fn tell_page(s: &[u8], number: u8, place: usize) {
     }
 }
 
-fn put_rows(out: &[u8], n: usize) {
+fn put_rows(rt: &impl Print, out: &[u8], n: usize) {
     if n <= ROWS {
-        put_out(out, 73 * n);
+        put_out(rt, out, 73 * n);
     }
 }
 
 // The space is lent as an array, whose length its type says: the checker would count to it.
-fn put_page(s: &[u8], lines: &[u8], out: &mut [u8; PAGE_SPACE]) {
+fn put_page(rt: &impl Print, s: &[u8], lines: &[u8], out: &mut [u8; PAGE_SPACE]) {
     match page::write(s, lines, out) {
-        Answer::Count(n) => put_rows(out, n),
+        Answer::Count(n) => put_rows(rt, out, n),
         Answer::Refused(n, place) => tell_page(s, n, place),
     }
 }
 
-fn print_lines(s: &[u8], lines: &[u8]) {
+fn print_lines(rt: &impl Print, s: &[u8], lines: &[u8]) {
     let mut out = [0u8; PAGE_SPACE];
-    put_page(s, lines, &mut out);
+    put_page(rt, s, lines, &mut out);
 }
 
 // The first n lines of a tree.
-pub fn print(s: &[u8], tree: &[u8], n: usize) {
+pub fn print(rt: &impl Print, s: &[u8], tree: &[u8], n: usize) {
     let size = tree_lines::line_length();
     if n <= tree.len() / size {
-        print_lines(s, &tree[0..size * n]);
+        print_lines(rt, s, &tree[0..size * n]);
     }
 }

@@ -7,24 +7,25 @@ use crate::steps::as_before;
 use crate::{Session, parts, steps};
 use answers::Answer;
 use report::{LINKS, SLOTS, tell};
+use std::io::Read;
 use typed::{Command, Next, command_of};
 
 // The last answer of a dialogue.
-fn ended(session: Session, words: &[u8]) -> Session {
-    say(words);
+fn ended(rt: &impl Print, session: Session, words: &[u8]) -> Session {
+    say(rt, words);
     as_before(session, false)
 }
 
 // `part NAME`: the steps must be started anew with it, so there must be no link.
-fn part(name: &[u8], parts: &mut [u8], session: Session) -> Session {
+fn part(rt: &impl Print, name: &[u8], parts: &mut [u8], session: Session) -> Session {
     let state = session.state;
     if 0 < state.links {
         return as_before(
             session,
-            say(b"a part can be added only while there is no link"),
+            say(rt, b"a part can be added only while there is no link"),
         );
     }
-    let going = parts::add(name, parts);
+    let going = parts::add(rt, name, parts);
     Session {
         started: false,
         going,
@@ -34,6 +35,7 @@ fn part(name: &[u8], parts: &mut [u8], session: Session) -> Session {
 
 // A step on the links.
 fn on_links(
+    rt: &impl Print,
     command: Command,
     line: &[u8],
     parts: &[u8],
@@ -47,16 +49,17 @@ fn on_links(
     match command {
         Command::Link => {
             steps::link(
-                line, parts, session, sets, entries, smallest, unions, journal,
+                rt, line, parts, session, sets, entries, smallest, unions, journal,
             )
         }
-        Command::Back => steps::back(parts, session, sets, entries, smallest, unions, journal),
-        _ => steps::list(parts, session, sets, entries, smallest, unions),
+        Command::Back => steps::back(rt, parts, session, sets, entries, smallest, unions, journal),
+        _ => steps::list(rt, parts, session, sets, entries, smallest, unions),
     }
 }
 
 // A step with all parts typed so far.
 fn step(
+    rt: &impl Print,
     command: Command,
     line: &[u8],
     parts: &[u8],
@@ -67,17 +70,18 @@ fn step(
     unions: &mut [u64],
     journal: &mut [u64],
 ) -> Session {
-    let now = steps::started(session, parts, sets, entries, smallest, unions, journal);
+    let now = steps::started(rt, session, parts, sets, entries, smallest, unions, journal);
     if !now.started {
         return now;
     }
     on_links(
-        command, line, parts, now, sets, entries, smallest, unions, journal,
+        rt, command, line, parts, now, sets, entries, smallest, unions, journal,
     )
 }
 
 // The answer to a line.
 fn answer(
+    rt: &impl Print,
     line: &[u8],
     parts: &mut [u8],
     session: Session,
@@ -92,18 +96,19 @@ fn answer(
         Command::Silent => session,
         Command::Part => {
             let name = words::word(line, 1);
-            part(name, parts, session)
+            part(rt, name, parts, session)
         }
-        Command::Quit => ended(session, b"ended by quit"),
-        Command::Unknown => as_before(session, commands()),
+        Command::Quit => ended(rt, session, b"ended by quit"),
+        Command::Unknown => as_before(session, commands(rt)),
         _ => step(
-            command, line, parts, session, sets, entries, smallest, unions, journal,
+            rt, command, line, parts, session, sets, entries, smallest, unions, journal,
         ),
     }
 }
 
 // The answer to what comes next in the input.
 fn answer_next(
+    rt: &impl Print,
     next: Next,
     buf: &[u8],
     parts: &mut [u8],
@@ -118,6 +123,7 @@ fn answer_next(
 {
     match next {
         Next::Line(from, end) => answer(
+            rt,
             &buf[from..end],
             parts,
             session,
@@ -127,13 +133,15 @@ fn answer_next(
             unions,
             journal,
         ),
-        Next::Long => as_before(session, too_long()),
-        Next::Nothing => ended(session, b"ended at the end of the input"),
+        Next::Long => as_before(session, too_long(rt)),
+        Next::Nothing => ended(rt, session, b"ended at the end of the input"),
     }
 }
 
 // Line after line, up to the most that a dialogue has.
 fn lines(
+    rt: &impl Print,
+    input: &mut impl Read,
     start: Session,
     buf: &mut [u8],
     parts: &mut [u8],
@@ -147,10 +155,10 @@ fn lines(
     let mut kept = typed::first();
     let mut n = 0;
     while n < LINES {
-        let taken = typed::next_line(buf, kept);
+        let taken = typed::next_line(input, buf, kept);
         let next = taken.next;
         session = answer_next(
-            next, buf, parts, session, sets, entries, smallest, unions, journal,
+            rt, next, buf, parts, session, sets, entries, smallest, unions, journal,
         );
         if !session.going {
             return;
@@ -158,7 +166,7 @@ fn lines(
         kept = taken.kept;
         n += 1;
     }
-    ended_after(LINES);
+    ended_after(rt, LINES);
 }
 
 // Whether a start was accepted; that it was not is told.
@@ -192,6 +200,7 @@ fn begin(
 }
 
 fn in_tables(
+    rt: &(impl Input + Print),
     k: usize,
     sets: &mut [u64],
     entries: &mut [u32],
@@ -203,21 +212,23 @@ fn in_tables(
     if !session.going {
         return;
     }
+    let mut input = rt.reader();
     let mut buf = [0u8; LINE_SPACE];
     let mut parts = [0u8; PARTS_SPACE];
     lines(
-        session, &mut buf, &mut parts, sets, entries, smallest, unions, journal,
+        rt, &mut input, session, &mut buf, &mut parts, sets, entries, smallest, unions, journal,
     );
 }
 
 // Parts and links from standard input, answered at clique size k.
-pub fn run(k: usize) {
+pub fn run(rt: &(impl Input + Print), k: usize) {
     let mut sets = [0u64; SLOTS];
     let mut entries = [0u32; SLOTS];
     let mut smallest = [0u64; SLOTS];
     let mut unions = [0u64; SLOTS];
     let mut journal = [0u64; LINKS];
     in_tables(
+        rt,
         k,
         &mut sets,
         &mut entries,

@@ -27,10 +27,10 @@ fn write_with(name: &[u8], names: &mut [u8], sheet: &mut [u8]) -> Answer {
 }
 
 // One part more.
-pub fn add(name: &[u8], sheet: &mut [u8]) -> bool {
+pub fn add(rt: &impl Print, name: &[u8], sheet: &mut [u8]) -> bool {
     let mut names = [b' '; NAMES + 8];
     match write_with(name, &mut names, sheet) {
-        Answer::Count(_) => count(part_count(sheet), b" part"),
-        Answer::Refused(n, _) => refused(n, 0),
+        Answer::Count(_) => count(rt, part_count(sheet), b" part"),
+        Answer::Refused(n, _) => refused(rt, n, 0),
     }
 }

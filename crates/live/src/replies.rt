@@ -4,35 +4,38 @@ use console::{STDOUT, counted, end, few_slots, field, text};
 use report::{SLOTS, line_words};
 
 // A line of words alone.
-pub fn say(words: &[u8]) -> bool {
+pub fn say(rt: &impl Print, words: &[u8]) -> bool {
     text(words);
-    end()
+    end(rt)
 }
 
 // A line that ends in a word which was typed.
-pub fn say_of(words: &[u8], word: &[u8]) -> bool {
+pub fn say_of(rt: &impl Print, words: &[u8], word: &[u8]) -> bool {
     text(words);
-    say(word)
+    say(rt, word)
 }
 
 // How many there are now.
-pub fn count(n: usize, what: &[u8]) -> bool {
+pub fn count(rt: &impl Print, n: usize, what: &[u8]) -> bool {
     counted(n, what);
-    end()
+    end(rt)
 }
 
-pub fn too_long() -> bool {
+pub fn too_long(rt: &impl Print) -> bool {
     field(b"the line is longer than ", LONGEST_LINE);
-    say(b" bytes")
+    say(rt, b" bytes")
 }
 
-pub fn ended_after(lines: usize) -> bool {
+pub fn ended_after(rt: &impl Print, lines: usize) -> bool {
     field(b"ended after ", lines);
-    say(b" lines")
+    say(rt, b" lines")
 }
 
-pub fn commands() -> bool {
-    say(b"type part NAME, link NAME NAME WEIGHT, back, list or quit")
+pub fn commands(rt: &impl Print) -> bool {
+    say(
+        rt,
+        b"type part NAME, link NAME NAME WEIGHT, back, list or quit",
+    )
 }
 
 // What is wrong with a step after a link of this weight. 8 and 19 are about the links typed before.
@@ -48,9 +51,9 @@ fn step_words(number: u8, last: usize) {
     }
 }
 
-pub fn refused(number: u8, last: usize) -> bool {
+pub fn refused(rt: &impl Print, number: u8, last: usize) -> bool {
     field(b"refused ", number as usize);
     text(b": ");
     step_words(number, last);
-    end()
+    end(rt)
 }

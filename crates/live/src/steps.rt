@@ -30,6 +30,7 @@ fn after(state: State, going: bool) -> Session {
 
 // A start with all parts where there has been none: 4 where there is no part. No link is lost, as parts come only while there is none.
 pub fn started(
+    rt: &impl Print,
     session: Session,
     parts: &[u8],
     sets: &mut [u64],
@@ -47,20 +48,21 @@ pub fn started(
     let answer = r.answer;
     match answer {
         Answer::Count(_) => after(r.state, true),
-        Answer::Refused(n, _) => as_before(session, refused(n, 0)),
+        Answer::Refused(n, _) => as_before(session, refused(rt, n, 0)),
     }
 }
 
 // ---- link
 
-fn inserted(answer: Answer, links: usize, last: usize) -> bool {
+fn inserted(rt: &impl Print, answer: Answer, links: usize, last: usize) -> bool {
     match answer {
-        Answer::Count(_) => count(links, b" link"),
-        Answer::Refused(n, _) => refused(n, last),
+        Answer::Count(_) => count(rt, links, b" link"),
+        Answer::Refused(n, _) => refused(rt, n, last),
     }
 }
 
 fn insert(
+    rt: &impl Print,
     state: State,
     sets: &mut [u64],
     entries: &mut [u32],
@@ -76,11 +78,12 @@ fn insert(
     );
     let answer = r.answer;
     let now = r.state;
-    after(now, inserted(answer, now.links, state.last))
+    after(now, inserted(rt, answer, now.links, state.last))
 }
 
 // `link NAME NAME WEIGHT`: one link more.
 pub fn link(
+    rt: &impl Print,
     line: &[u8],
     parts: &[u8],
     session: Session,
@@ -91,9 +94,9 @@ pub fn link(
     journal: &mut [u64],
 ) -> Session {
     let state = session.state;
-    match typed_link(line, parts) {
+    match typed_link(rt, line, parts) {
         Typed::Link(low, high, weight) => insert(
-            state, sets, entries, smallest, unions, journal, low, high, weight,
+            rt, state, sets, entries, smallest, unions, journal, low, high, weight,
         ),
         Typed::Told(going) => after(state, going),
     }
@@ -102,7 +105,7 @@ pub fn link(
 // ---- back
 
 // The link of an entry, and how many remain.
-fn taken(parts: &[u8], e: u64, links: usize) -> bool {
+fn taken(rt: &impl Print, parts: &[u8], e: u64, links: usize) -> bool {
     link_words(
         parts,
         journal::low_of(e),
@@ -110,11 +113,12 @@ fn taken(parts: &[u8], e: u64, links: usize) -> bool {
         journal::weight_of(e),
     );
     text(b" taken back, ");
-    count(links, b" link")
+    count(rt, links, b" link")
 }
 
 // `back`: the last link taken back.
 pub fn back(
+    rt: &impl Print,
     parts: &[u8],
     session: Session,
     sets: &mut [u64],
@@ -129,14 +133,15 @@ pub fn back(
     let answer = r.answer;
     let now = r.state;
     match answer {
-        Answer::Count(_) => after(now, taken(parts, e, now.links)),
-        Answer::Refused(n, _) => after(now, refused(n, state.last)),
+        Answer::Count(_) => after(now, taken(rt, parts, e, now.links)),
+        Answer::Refused(n, _) => after(now, refused(rt, n, state.last)),
     }
 }
 
 // ---- list
 
 fn list_into(
+    rt: &impl Print,
     parts: &[u8],
     state: State,
     sets: &[u64],
@@ -146,13 +151,14 @@ fn list_into(
     out: &mut [u8; LISTING_SPACE],
 ) -> bool {
     match sequential::listing_now(state, sets, entries, smallest, unions, out) {
-        Answer::Count(n) => families_now(parts, state.k, out, n),
-        Answer::Refused(n, _) => refused(n, state.last),
+        Answer::Count(n) => families_now(rt, parts, state.k, out, n),
+        Answer::Refused(n, _) => refused(rt, n, state.last),
     }
 }
 
 // `list`: the families of the links so far.
 pub fn list(
+    rt: &impl Print,
     parts: &[u8],
     session: Session,
     sets: &[u64],
@@ -162,6 +168,6 @@ pub fn list(
 ) -> Session {
     let mut out = [0u8; LISTING_SPACE];
     let state = session.state;
-    let going = list_into(parts, state, sets, entries, smallest, unions, &mut out);
+    let going = list_into(rt, parts, state, sets, entries, smallest, unions, &mut out);
     after(state, going)
 }

@@ -5,25 +5,25 @@ use crate::refusal::tell;
 use console::{counted, end, field, text};
 use sheet::Checked;
 
-fn head(p: usize, m: usize) -> bool {
+fn head(rt: &impl Print, p: usize, m: usize) -> bool {
     text(b"# ");
     counted(p, b" part");
     text(b", ");
     counted(m, b" link");
-    end()
+    end(rt)
 }
 
-fn part_line(s: &[u8], q: usize) -> bool {
+fn part_line(rt: &impl Print, s: &[u8], q: usize) -> bool {
     text(b"part ");
     text(name(s, q));
-    end()
+    end(rt)
 }
 
 // A line for each part; false where standard output takes no more.
-fn part_lines(s: &[u8], p: usize) -> bool {
+fn part_lines(rt: &impl Print, s: &[u8], p: usize) -> bool {
     let mut q = 0;
     while q < p {
-        if !part_line(s, q) {
+        if !part_line(rt, s, q) {
             return false;
         }
         q += 1;
@@ -40,9 +40,9 @@ pub fn link_words(s: &[u8], low: usize, high: usize, weight: usize) {
     field(b" ", weight);
 }
 
-fn link_line(s: &[u8], low: usize, high: usize, weight: usize) -> bool {
+fn link_line(rt: &impl Print, s: &[u8], low: usize, high: usize, weight: usize) -> bool {
     link_words(s, low, high, weight);
-    end()
+    end(rt)
 }
 
 fn wide(w: u16) -> usize {
@@ -50,7 +50,14 @@ fn wide(w: u16) -> usize {
 }
 
 // Link j; false also where a list ends before it.
-fn link_at(s: &[u8], j: usize, lower: &[u16], higher: &[u16], weights: &[u16]) -> bool {
+fn link_at(
+    rt: &impl Print,
+    s: &[u8],
+    j: usize,
+    lower: &[u16],
+    higher: &[u16],
+    weights: &[u16],
+) -> bool {
     if lower.len() <= j {
         return false;
     }
@@ -60,33 +67,41 @@ fn link_at(s: &[u8], j: usize, lower: &[u16], higher: &[u16], weights: &[u16]) -
     if weights.len() <= j {
         return false;
     }
-    link_line(s, wide(lower[j]), wide(higher[j]), wide(weights[j]))
+    link_line(rt, s, wide(lower[j]), wide(higher[j]), wide(weights[j]))
 }
 
 // A line for each of the first m links.
-fn link_lines(s: &[u8], m: usize, lower: &[u16], higher: &[u16], weights: &[u16]) {
+fn link_lines(rt: &impl Print, s: &[u8], m: usize, lower: &[u16], higher: &[u16], weights: &[u16]) {
     let mut j = 0;
     while j < m {
-        if !link_at(s, j, lower, higher, weights) {
+        if !link_at(rt, s, j, lower, higher, weights) {
             return;
         }
         j += 1;
     }
 }
 
-fn print(s: &[u8], p: usize, m: usize, lower: &[u16], higher: &[u16], weights: &[u16]) {
-    if head(p, m) && part_lines(s, p) {
-        link_lines(s, m, lower, higher, weights);
+fn print(
+    rt: &impl Print,
+    s: &[u8],
+    p: usize,
+    m: usize,
+    lower: &[u16],
+    higher: &[u16],
+    weights: &[u16],
+) {
+    if head(rt, p, m) && part_lines(rt, s, p) {
+        link_lines(rt, s, m, lower, higher, weights);
     }
 }
 
-pub fn show(s: &[u8]) {
+pub fn show(rt: &impl Print, s: &[u8]) {
     let mut names = [0u8; NAMES];
     let mut lower = [0u16; LINKS];
     let mut higher = [0u16; LINKS];
     let mut weights = [0u16; LINKS];
     match sheet_reader::read(s, &mut names, &mut lower, &mut higher, &mut weights) {
-        Checked::Fine(p, m) => print(s, p, m, &lower, &higher, &weights),
+        Checked::Fine(p, m) => print(rt, s, p, m, &lower, &higher, &weights),
         Checked::Faulty(n, place) => tell(s, n, place),
     }
 }

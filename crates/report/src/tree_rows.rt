@@ -19,17 +19,17 @@ fn goes_into(n: usize) {
 }
 
 // The line at the start of x.
-fn row(s: &[u8], x: &[u8], number: usize) -> bool {
+fn row(rt: &impl Print, s: &[u8], x: &[u8], number: usize) -> bool {
     field(b"line ", number);
     field(b", weight ", records::two_at(x, 0));
     joins(records::four_at(x, 2));
     goes_into(records::four_at(x, 6));
     text(b":");
     names(s, sets::from_bytes(x, 18));
-    end()
+    end(rt)
 }
 
-fn rows(s: &[u8], out: &[u8], n: usize) {
+fn rows(rt: &impl Print, s: &[u8], out: &[u8], n: usize) {
     let mut at = 0;
     let mut i = 0;
     while i < n {
@@ -37,16 +37,16 @@ fn rows(s: &[u8], out: &[u8], n: usize) {
             return;
         }
         i += 1;
-        if !row(s, &out[at..], i) {
+        if !row(rt, s, &out[at..], i) {
             return;
         }
         at += 26;
     }
 }
 
-pub fn tree(s: &[u8], k: usize, out: &[u8], n: usize) {
+pub fn tree(rt: &impl Print, s: &[u8], k: usize, out: &[u8], n: usize) {
     head(n, b"line", b"lines", k);
-    if end() {
-        rows(s, out, n);
+    if end(rt) {
+        rows(rt, s, out, n);
     }
 }

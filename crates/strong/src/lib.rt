@@ -56,17 +56,26 @@ fn tell_strong(s: &[u8], number: u8, place: usize) {
 }
 
 // The threshold stands in the measure too; x is what was typed.
-fn answer(s: &[u8], k: usize, measure: Measure, words: &[u8], x: usize, out: &mut [u8; SPACE]) {
+fn answer(
+    rt: &impl Print,
+    s: &[u8],
+    k: usize,
+    measure: Measure,
+    words: &[u8],
+    x: usize,
+    out: &mut [u8; SPACE],
+) {
     match in_tables(s, k, measure, out) {
-        Answer::Count(n) => strong_families(s, k, words, x, out, n),
+        Answer::Count(n) => strong_families(rt, s, k, words, x, out, n),
         Answer::Refused(n, place) => tell_strong(s, n, place),
     }
 }
 
 // The families of cliques whose weakest link weighs t or more.
-pub fn weakest(s: &[u8], k: usize, t: u16) {
+pub fn weakest(rt: &impl Print, s: &[u8], k: usize, t: u16) {
     let mut out = [0u8; SPACE];
     answer(
+        rt,
         s,
         k,
         Measure::Weakest(t),
@@ -84,9 +93,10 @@ pub fn threshold(x: usize) -> f64
 }
 
 // The families of cliques whose product is x or more.
-pub fn product(s: &[u8], k: usize, x: usize) {
+pub fn product(rt: &impl Print, s: &[u8], k: usize, x: usize) {
     let mut out = [0u8; SPACE];
     answer(
+        rt,
         s,
         k,
         Measure::Product(threshold(x)),

@@ -3,7 +3,8 @@ ghost use Rattle.std.specs.Prelude.{◌≡◌, List, ◌++◌, ℕ, suc, ◌-◌
 ghost use Rattle.typed.specs.Lines.{KeptIn, TakenIn};
 
 use crate::{Kept, Next, READS, Taken};
-use console::{Loaded, STDIN, find, read_on};
+use console::{Loaded, find, read_on};
+use std::io::Read;
 
 fn none(ended: bool) -> Kept
     ensures { (result.from ≡ 0) × (result.to ≡ 0) }
@@ -76,12 +77,12 @@ fn to_front(buf: &mut [u8], from: usize, to: usize) -> usize
 }
 
 // The rest of a line that is too long, read and forgotten. Where it takes too many reads the input counts as ended.
-fn pass_over(buf: &mut [u8]) -> Kept
+fn pass_over(input: &mut impl Read, buf: &mut [u8]) -> Kept
     ensures { KeptIn result buf.new }
 {
     let mut i = 0;
     while i < READS {
-        let Loaded::Bytes(n) = read_on(STDIN, b"standard input", buf, 0) else {
+        let Loaded::Bytes(n) = read_on(input, b"standard input", buf, 0) else {
             return none(true);
         };
         if n == 0 {
@@ -97,13 +98,13 @@ fn pass_over(buf: &mut [u8]) -> Kept
 }
 
 // Reads behind the first n bytes, which have no newline, until a line is whole.
-fn read_line(buf: &mut [u8], n: usize) -> Taken
+fn read_line(input: &mut impl Read, buf: &mut [u8], n: usize) -> Taken
     requires { n ≤ length buf.old }
     ensures { TakenIn result buf.new }
 {
     let mut to = n;
     while to < buf.len() {
-        let Loaded::Bytes(more) = read_on(STDIN, b"standard input", buf, to) else {
+        let Loaded::Bytes(more) = read_on(input, b"standard input", buf, to) else {
             return last(0, 0);
         };
         if more == 0 {
@@ -117,12 +118,12 @@ fn read_line(buf: &mut [u8], n: usize) -> Taken
     }
     Taken {
         next: Next::Long,
-        kept: pass_over(buf),
+        kept: pass_over(input, buf),
     }
 }
 
 // The next line: of what is kept, or read. For sister crates.
-pub fn next_line(buf: &mut [u8], kept: Kept) -> Taken
+pub fn next_line(input: &mut impl Read, buf: &mut [u8], kept: Kept) -> Taken
     requires { KeptIn kept buf.old }
     ensures { TakenIn result buf.new }
 {
@@ -136,5 +137,5 @@ pub fn next_line(buf: &mut [u8], kept: Kept) -> Taken
         return last(from, to);
     }
     let n = to_front(buf, from, to);
-    read_line(buf, n)
+    read_line(input, buf, n)
 }

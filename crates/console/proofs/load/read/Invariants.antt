@@ -7,7 +7,7 @@ use Rattle.console.proofs.Bounds.{within_bytes}
 use Rattle.console.proofs.load.read.Given as goal
 
 abbrev pub invariant-loop-n : goal.invariant-loop-n
-invariant-loop-n l = (l.n ≤ length l.buf) × (length l.buf ≡ length l.initial.buf)
+invariant-loop-n v l = (l.n ≤ length l.buf) × (length l.buf ≡ length l.initial.buf)
 
 abbrev pub decreases-loop-n : goal.decreases-loop-n
-decreases-loop-n l = length l.buf - l.n
+decreases-loop-n v l = length l.buf - l.n
