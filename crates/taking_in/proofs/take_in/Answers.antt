@@ -2,7 +2,6 @@ use mathlib.Core.Path.{sym, ◌∙◌}
 use Rattle.sets.proofs.Held.{held}
 use Rattle.slots.proofs.Steps.{took_part_lem}
 use Rattle.slots.proofs.Peel.{peeled, peel_end, peel_next, took_in_lem}
-use borrow.Author.Rules.{rules}
 use Rattle.taking_in.proofs.take_in.Goals as goal
 
 pub returns-then-is_empty : goal.returns-then-is_empty

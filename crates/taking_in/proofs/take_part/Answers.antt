@@ -1,5 +1,4 @@
 use Rattle.slots.proofs.Steps.{took_part_lem}
-use borrow.Author.Rules.{rules}
 use Rattle.taking_in.proofs.take_part.Goals as goal
 
 pub returns : goal.returns

@@ -1,14 +1,10 @@
-use mathlib.Core.Path.{◌≡◌, refl, sym, ◌∙◌}
+use mathlib.Core.Path.{◌≡◌}
 use Prim.Native.Nat.{◌≤◌, ◌<◌, ◌^◌}
-use borrow.Author.Rules.{rules}
-use borrow.Author.Tests.{not-true, not-false}
 use lib.ListN.{length}
 use Rattle.sets.specs.Sets.{members}
 use Rattle.sets.specs.Value.{width, num}
-use Rattle.sets.proofs.Held.{held}
 use Rattle.slots.specs.Tables.{tables, room}
 use Rattle.slots.specs.Model.{took_parts}
-use Rattle.slots.proofs.Peel.{peel_less, peel_next, peel_end}
 use Rattle.taking_in.proofs.take_parts.Given as goal
 
 -- The invariant: taking in the parts that are left gives what taking in all of them gives. Assumes nothing.

@@ -1,7 +1,6 @@
 use mathlib.Core.Path.{sym}
 use Rattle.slots.proofs.Cases.{touched_idle}
 use Rattle.slots.proofs.Steps.{touch_is}
-use borrow.Author.Rules.{rules}
 use Rattle.taking_in.proofs.touch.Goals as goal
 
 pub returns-then-first-used : goal.returns-then-first-used
