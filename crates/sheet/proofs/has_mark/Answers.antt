@@ -5,7 +5,6 @@ use lib.Dec.{eqb}
 use Prim.Native.Nat.{ℕ}
 use Rattle.sets.proofs.Tests.{and_stop, and_go}
 use Rattle.sheet.specs.Sheet.{has_mark}
-use borrow.Author.Rules.{rules}
 use Rattle.sheet.proofs.has_mark.Goals as goal
 
 -- the test of a byte, from that of what was read

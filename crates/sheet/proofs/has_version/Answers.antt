@@ -1,6 +1,5 @@
 use borrow.Author.Tests.{le-leb, lt-leb}
 use Rattle.sheet.specs.Sheet.{has_version}
-use borrow.Author.Rules.{rules}
 use Rattle.sheet.proofs.has_version.Goals as goal
 
 pub returns-then-s-lt5 : goal.returns-then-s-lt5

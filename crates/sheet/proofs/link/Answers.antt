@@ -1,14 +1,9 @@
-use borrow.Author.Rules.{rules}
 use mathlib.Core.Path.{ap, ap₂, ◌∙◌}
-use native.Mathlib.Omega.{arith}
 use Prim.Native.Nat.{ℕ, ◌+◌}
 use Rattle.records.specs.Numbers.{two_at}
 use Rattle.percolation.specs.Links.{link}
 use Rattle.sheet.specs.Sheet.{byte, link_of}
 use Rattle.sheet.proofs.link.Goals as goal
-
-pub link_at-at-requires : goal.link_at-at-requires
-link_at-at-requires c = omega (arith, c.shared_slice_known-1.given 6, c.shared_slice_known-1.given 7, c.requires)
 
 pub returns : goal.returns
 unfolding link_of

@@ -1,13 +1,10 @@
 use mathlib.Core.Path.{◌≡◌, sym, ap, ◌∙◌, subst⁻¹}
 use native.Mathlib.Omega.{arith}
-use borrow.Author.Rules.{rules}
 use mathlib.Core.List.{List}
-use Prim.Native.Nat.{ℕ, ◌+◌, ◌≤◌, ◌-◌}
+use Prim.Native.Nat.{ℕ, ◌+◌}
 use lib.ListN.{length}
-use Rattle.sets.specs.Value.{no_rows}
 use Rattle.sets.proofs.Tables.{length_none}
 use Rattle.answers.specs.Verdict.{refused, in_order}
-use Rattle.percolation.specs.Links.{link}
 use Rattle.checks.specs.Model.{link_number}
 use Rattle.sheet.specs.Sheet.{parts, link_at, link_of, check_link_at}
 use Rattle.sheet.specs.Answers.{link_row}
@@ -17,14 +14,8 @@ use Rattle.sheet.proofs.sheet_links.Goals as goal
 pub loop-j-init : goal.loop-j-init
 loop-j-init c = (omega arith, subst⁻¹ (λ (R : List ℕ). Passed (link_of c.args.s.now) (link_at c.args.s.now) (parts c.args.s.now) 0 R 65535) c.no_rows-seen.ensures (passed_none _ _ _), ap length c.no_rows-seen.ensures)
 
-pub link-l-requires : goal.link-l-requires
-link-l-requires c = omega (arith, c.loop-j-test.true, c.requires.1.0)
-
 pub slice_bounds-link_number-end : goal.slice_bounds-link_number-end
 slice_bounds-link_number-end c = sym (c.loop-j.invariant.2 ∙ length_none)
-
-pub link_at-requires : goal.link_at-requires
-link_at-requires c = omega (arith, c.shared_slice_known-1.given 6, c.shared_slice_known-1.given 7, c.loop-j-test.true, c.requires.1.0)
 
 pub returns-then-number-ne0 : goal.returns-then-number-ne0
 unfolding check_link_at
@@ -52,7 +43,7 @@ loop-j-preserved c =
       subst⁻¹ (λ (R : List ℕ). Passed (link_of s) (link_at s) (parts s) (l.j + 1) R c.link-l.result.weight) c.add_link.ensures
           (passed_more (link_of s) (link_at s) (parts s) l.j l.seen l.before (omega (arith, e, c.requires.1.1)) l.invariant.1 _ c.link-l.ensures.0 c.link-l.ensures.1.1.1 n.result
           (n.ensures ∙ ap (λ (p : ℕ). link_number p l.seen l.before (link_row c.link-l.result)) e) c.if-number-ne0.false),
-      c.add_link.auto.0 ∙ l.invariant.2,
+      c.add_link.auto.rows ∙ l.invariant.2,
     )
 
 pub returns : goal.returns

@@ -1,17 +1,9 @@
-use mathlib.Core.Path.{◌≡◌, sym, ap, ◌∙◌, subst⁻¹}
-use native.Mathlib.Omega.{arith}
-use borrow.Author.Rules.{rules}
-use mathlib.Core.List.{List}
-use Prim.Native.Nat.{ℕ, ◌+◌, ◌≤◌, ◌-◌}
+use mathlib.Core.Path.{◌≡◌}
+use Prim.Native.Nat.{◌≤◌, ◌-◌}
 use lib.ListN.{length}
 use Rattle.sets.specs.Value.{no_rows}
-use Rattle.sets.proofs.Tables.{length_none}
-use Rattle.answers.specs.Verdict.{refused, in_order}
-use Rattle.percolation.specs.Links.{link}
-use Rattle.checks.specs.Model.{link_number}
-use Rattle.sheet.specs.Sheet.{parts, link_at, link_of, check_link_at}
-use Rattle.sheet.specs.Answers.{link_row}
-use Rattle.sheet.proofs.InTurn.{Passed, passed_none, passed_stop, passed_more}
+use Rattle.sheet.specs.Sheet.{parts, link_at, link_of}
+use Rattle.sheet.proofs.InTurn.{Passed}
 use Rattle.sheet.proofs.sheet_links.Given as goal
 
 abbrev pub invariant-loop-j : goal.invariant-loop-j
