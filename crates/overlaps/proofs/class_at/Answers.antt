@@ -1,10 +1,5 @@
-use mathlib.Core.Path.{◌≡◌, refl, ◌∙◌}
-use Prim.Native.Nat.{◌≤◌, ◌<◌, ◌-◌}
+use mathlib.Core.Path.{refl, ◌∙◌}
 use native.Mathlib.Omega.{arith}
-use borrow.Author.Rules.{rules}
-use lib.ListN.{length}
-use Rattle.sets.specs.Value.{num}
-use Rattle.overlaps.specs.Model.{grown, grown_from, class_at}
 use Rattle.overlaps.proofs.Steps.{grow_first, grow_next, grow_done}
 use Rattle.overlaps.proofs.class_at.Goals as goal
 
@@ -20,7 +15,7 @@ loop-f-preserved c =
       omega arith,
       omega arith,
       omega arith,
-      b.sweep-e.auto.0 ∙ l.invariant.3,
+      b.sweep-e.auto.table ∙ l.invariant.3,
       grow_next _ _ _ _ _ _ _ l.invariant.4 (omega arith) (omega arith) _ _ _ _ s.at-s.ensures b.lows.ensures
           b.lesser-small.ensures b.union-whole.ensures _ _ b.sweep-e.ensures.result_after,
     )

@@ -1,11 +1,8 @@
-use mathlib.Core.Path.{◌≡◌, refl, ◌∙◌}
+use mathlib.Core.Path.{◌≡◌}
 use Prim.Native.Nat.{◌≤◌, ◌<◌, ◌-◌}
-use native.Mathlib.Omega.{arith}
-use borrow.Author.Rules.{rules}
 use lib.ListN.{length}
 use Rattle.sets.specs.Value.{num}
 use Rattle.overlaps.specs.Model.{grown, grown_from, class_at}
-use Rattle.overlaps.proofs.Steps.{grow_first, grow_next, grow_done}
 use Rattle.overlaps.proofs.class_at.Given as goal
 
 -- The invariant: the frontier that is left gives the class. Assumes nothing.

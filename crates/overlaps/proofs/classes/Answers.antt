@@ -1,9 +1,5 @@
-use mathlib.Core.Path.{◌≡◌, refl, ◌∙◌}
-use Prim.Native.Nat.{◌≤◌, ◌-◌}
+use mathlib.Core.Path.{refl, ◌∙◌}
 use native.Mathlib.Omega.{arith}
-use borrow.Author.Rules.{rules}
-use lib.ListN.{length}
-use Rattle.overlaps.specs.Model.{classed, classed_from, classed_all}
 use Rattle.overlaps.proofs.Steps.{class_first, class_next, class_done}
 use Rattle.overlaps.proofs.classes.Goals as goal
 
@@ -18,9 +14,9 @@ loop-i-preserved c =
     let l = s.loop-i in (
       omega arith,
       omega arith,
-      s.class_at-class.auto.0 ∙ l.invariant.2,
-      p.put.auto.0 ∙ l.invariant.3,
-      b.put-in-loop-i.auto.0 ∙ l.invariant.4,
+      s.class_at-class.auto.table ∙ l.invariant.2,
+      p.put.auto.table ∙ l.invariant.3,
+      b.put-in-loop-i.auto.table ∙ l.invariant.4,
       class_next _ _ _ _ _ _ _ l.invariant.5 (omega arith) (omega arith) _ _ _ _ _ _ s.class_at-class.ensures.whole_after p.put.ensures b.put-in-loop-i.ensures,
     )
 

@@ -1,10 +1,7 @@
-use mathlib.Core.Path.{◌≡◌, refl, ◌∙◌}
+use mathlib.Core.Path.{◌≡◌}
 use Prim.Native.Nat.{◌≤◌, ◌-◌}
-use native.Mathlib.Omega.{arith}
-use borrow.Author.Rules.{rules}
 use lib.ListN.{length}
 use Rattle.overlaps.specs.Model.{classed, classed_from, classed_all}
-use Rattle.overlaps.proofs.Steps.{class_first, class_next, class_done}
 use Rattle.overlaps.proofs.classes.Given as goal
 
 -- The invariant: the classes of the rows that are left, after those written, are all classes. Assumes nothing.

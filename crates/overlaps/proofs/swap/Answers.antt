@@ -1,4 +1,3 @@
-use borrow.Author.Rules.{rules}
 use Rattle.overlaps.proofs.Steps.{swap_is}
 use Rattle.overlaps.proofs.swap.Goals as goal
 

@@ -1,14 +1,10 @@
-use mathlib.Core.Path.{◌≡◌, refl, ap, ◌∙◌}
-use mathlib.Core.Logic.{⊎_elim}
-use Prim.Native.Nat.{◌≤◌, ◌-◌}
+use mathlib.Core.Path.{refl, ◌∙◌}
 use native.Mathlib.Omega.{arith}
-use borrow.Author.Rules.{rules}
-use lib.ListN.{length}
-use Rattle.sets.specs.Value.{width, num}
+use Rattle.sets.specs.Value.{width}
 use Rattle.sets.proofs.Held.{held}
 use Rattle.sets.proofs.Laws.{size_le}
-use Rattle.overlaps.specs.Model.{swept_from}
 use Rattle.overlaps.proofs.Steps.{sweep_near, sweep_far, sweep_done}
+use Rattle.overlaps.proofs.sweep.Goals.{then-k-count, else-k-count}
 use Rattle.overlaps.proofs.sweep.Goals as goal
 
 pub loop-j-init : goal.loop-j-init
@@ -19,25 +15,25 @@ overflow_add-count c = let m = c.meet in omega (arith, c.count.ensures, size_le 
 
 pub loop-j-preserved : goal.loop-j-preserved
 loop-j-preserved c =
-    let t = c in
-    let l = t.loop-j in
-    ⊎_elim
-    (λ h. (
-      omega (arith, h.6),
-      omega (arith, h.6),
-      omega arith,
-      ap length h.5 ∙ h.2.kept.0 ∙ l.invariant.3,
-      sweep_near _ _ _ _ _ _ _ _ _ (omega arith) t.at.ensures c.meet.ensures c.count.ensures l.invariant.4 h.0.taken
-          (h.5 ∙ h.2.ensures) h.6,
-    ))
-    (λ h. (
-      omega (arith, h.2),
-      omega (arith, h.2),
-      omega arith,
-      ap length h.1 ∙ l.invariant.3,
-      sweep_far _ _ _ _ _ _ _ _ _ (omega arith) t.at.ensures c.meet.ensures c.count.ensures l.invariant.4 h.0.left
-          h.1 h.2,
-    )) c.if-k-count.branch
+    let l = c.loop-j in
+    elim c.if-k-count.branch [
+      | then-k-count w ↦ (
+          omega (arith, w.e-is),
+          omega (arith, w.e-is),
+          omega arith,
+          c.if-k-count.auto.table ∙ l.invariant.3,
+          sweep_near _ _ _ _ _ _ _ _ _ (omega arith) c.at.ensures c.meet.ensures c.count.ensures l.invariant.4 w.if-k-count.true
+              (w.table-is ∙ w.swap.ensures) w.e-is,
+        )
+      | else-k-count w ↦ (
+          omega (arith, w.e-is),
+          omega (arith, w.e-is),
+          omega arith,
+          c.if-k-count.auto.table ∙ l.invariant.3,
+          sweep_far _ _ _ _ _ _ _ _ _ (omega arith) c.at.ensures c.meet.ensures c.count.ensures l.invariant.4 w.if-k-count.false
+              w.table-is w.e-is,
+        )
+    ]
 
 pub shape_of-table : goal.shape_of-table
 shape_of-table c = c.loop-j.invariant.3

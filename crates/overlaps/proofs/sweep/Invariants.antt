@@ -1,14 +1,8 @@
-use mathlib.Core.Path.{◌≡◌, refl, ap, ◌∙◌}
-use mathlib.Core.Logic.{⊎_elim}
+use mathlib.Core.Path.{◌≡◌}
 use Prim.Native.Nat.{◌≤◌, ◌-◌}
-use native.Mathlib.Omega.{arith}
-use borrow.Author.Rules.{rules}
 use lib.ListN.{length}
-use Rattle.sets.specs.Value.{width, num}
-use Rattle.sets.proofs.Held.{held}
-use Rattle.sets.proofs.Laws.{size_le}
+use Rattle.sets.specs.Value.{num}
 use Rattle.overlaps.specs.Model.{swept_from}
-use Rattle.overlaps.proofs.Steps.{sweep_near, sweep_far, sweep_done}
 use Rattle.overlaps.proofs.sweep.Given as goal
 
 -- The invariant: sweeping the rows that are left gives what sweeping all of them gives. Assumes nothing.
