@@ -1,13 +1,8 @@
-use mathlib.Core.Path.{◌≡◌, refl, sym, ◌∙◌}
-use mathlib.Core.List.{foldl}
-use Prim.Native.Nat.{min, ◌^◌, ◌<◌}
+use mathlib.Core.Path.{refl, sym, ◌∙◌}
+use Prim.Native.Nat.{min}
 use lib.Ieee.{of_bits, of_int}
-use borrow.Author.Rules.{rules}
-use borrow.Author.Tests.{not-true, not-false}
-use Rattle.sets.specs.Value.{width, num}
 use Rattle.sets.proofs.Held.{held}
-use Rattle.products.specs.Products.{float_of, times_of}
-use Rattle.products.specs.Model.{table_weights}
+use Rattle.products.specs.Products.{times_of}
 use Rattle.products.proofs.Nearness.{from_one}
 use Rattle.products.proofs.Peeling.{part_below, fewer, still_fits, pairs_more, pairs_done, weakest_left, first_narrow}
 use Rattle.products.proofs.strength_of.Goals as goal

@@ -1,15 +1,9 @@
-use mathlib.Core.Path.{◌≡◌, refl, sym, ◌∙◌}
+use mathlib.Core.Path.{◌≡◌}
 use mathlib.Core.List.{foldl}
 use Prim.Native.Nat.{min, ◌^◌, ◌<◌}
-use lib.Ieee.{of_bits, of_int}
-use borrow.Author.Rules.{rules}
-use borrow.Author.Tests.{not-true, not-false}
 use Rattle.sets.specs.Value.{width, num}
-use Rattle.sets.proofs.Held.{held}
 use Rattle.products.specs.Products.{float_of, times_of}
 use Rattle.products.specs.Model.{table_weights}
-use Rattle.products.proofs.Nearness.{from_one}
-use Rattle.products.proofs.Peeling.{part_below, fewer, still_fits, pairs_more, pairs_done, weakest_left, first_narrow}
 use Rattle.products.proofs.strength_of.Given as goal
 
 -- The invariant: the pairs left, from the strength as it is, give what all of them give from 1 and from the heaviest weight. Assumes nothing.

@@ -1,13 +1,9 @@
-use mathlib.Core.Path.{◌≡◌, refl, sym, ap, ◌∙◌}
+use mathlib.Core.Path.{◌≡◌}
 use mathlib.Core.List.{foldl}
 use Prim.Native.Nat.{min, ◌^◌, ◌<◌}
-use borrow.Author.Rules.{rules}
-use borrow.Author.Tests.{not-true, not-false}
 use Rattle.sets.specs.Value.{width, num}
-use Rattle.sets.proofs.Held.{held}
 use Rattle.products.specs.Products.{times_of}
 use Rattle.products.specs.Model.{part_weights}
-use Rattle.products.proofs.Peeling.{part_below, fewer, still_fits, with_more, with_done}
 use Rattle.products.proofs.strength_with.Given as goal
 
 -- The invariant: the weights left, from the strength as it is, give what all of them give from the strength at the start. Assumes nothing.

@@ -3,7 +3,6 @@ use lib.Dec.{eqb}
 use mathlib.Core.Bool.{not}
 use Prim.Native.Nat.{ℕ}
 use mathlib.Core.Path.{sym, ap, ◌∙◌}
-use borrow.Author.Rules.{rules}
 use Rattle.tree_levels.proofs.absorbed.Goals as goal
 
 pub returns-then-is_root : goal.returns-then-is_root

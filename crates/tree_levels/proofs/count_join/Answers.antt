@@ -2,7 +2,6 @@ use Rattle.tree_levels.specs.LevelModel.{more_joins}
 use Rattle.sets.specs.Value.{store, number_at}
 use native.Mathlib.Numerals.{add-one}
 use mathlib.Core.Path.{ap, ap₂, ◌∙◌}
-use borrow.Author.Rules.{rules}
 use Rattle.tree_levels.proofs.count_join.Goals as goal
 
 pub returns : goal.returns

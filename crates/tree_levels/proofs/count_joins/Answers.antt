@@ -1,12 +1,10 @@
 use Rattle.tree_levels.proofs.LevelSteps.{swept_none, swept_kept, swept_more}
 use Rattle.tree_levels.specs.LevelModel.{join_counts}
-use lib.ListN.{length}
-use Prim.Native.Nat.{suc, ◌≤◌, ◌-◌}
+use Prim.Native.Nat.{suc}
 use mathlib.Core.Path.{◌≡◌, refl, sym, ap, ◌∙◌}
-use mathlib.Core.Logic.{⊎_elim}
-use borrow.Author.Rules.{rules}
 use native.Mathlib.Omega.{arith}
 use Rattle.tree_levels.proofs.count_joins.Goals as goal
+use Rattle.tree_levels.proofs.count_joins.Goals.{then-absorbed, else-absorbed}
 
 pub loop-i-init : goal.loop-i-init
 loop-i-init c = (omega arith, refl, sym (swept_none _ _ _ _))
@@ -15,11 +13,15 @@ pub loop-i-preserved : goal.loop-i-preserved
 loop-i-preserved c =
     let l = c.loop-i in
     let a = c.args in
-    let t = sym c.absorbed.ensures in
-    ⊎_elim
-    (λ w. (omega arith, ap length w.6 ∙ w.3.kept.0 ∙ l.invariant.1, swept_more _ _ _ a.unions.now l.i l.unions _ l.invariant.2 (t ∙ w.0.taken) _ _ (ap suc w.2.ensures.0) refl (w.6 ∙ w.3.ensures)))
-    (λ w. (omega arith, ap length w.1 ∙ l.invariant.1, swept_kept _ _ _ a.unions.now l.i l.unions _ l.invariant.2 (t ∙ w.0.left) w.1))
-    c.if-absorbed.branch
+    let t = sym c.absorbed.ensures in (
+      omega arith,
+      c.if-absorbed.auto.unions ∙ l.invariant.1,
+      elim c.if-absorbed.branch [
+        | then-absorbed w ↦
+            swept_more _ _ _ a.unions.now l.i l.unions _ l.invariant.2 (t ∙ w.if-absorbed.true) _ _ (ap suc w.root.ensures.0) refl (w.unions-is ∙ w.count_join.ensures)
+        | else-absorbed w ↦ swept_kept _ _ _ a.unions.now l.i l.unions _ l.invariant.2 (t ∙ w.if-absorbed.false) w.unions-is
+      ],
+    )
 
 pub shape_of-unions : goal.shape_of-unions
 shape_of-unions c = c.loop-i.invariant.1

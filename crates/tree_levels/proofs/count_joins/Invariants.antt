@@ -1,11 +1,7 @@
-use Rattle.tree_levels.proofs.LevelSteps.{swept_none, swept_kept, swept_more}
 use Rattle.tree_levels.specs.LevelModel.{join_counts}
 use lib.ListN.{length}
-use Prim.Native.Nat.{suc, ◌≤◌, ◌-◌}
-use mathlib.Core.Path.{◌≡◌, refl, sym, ap, ◌∙◌}
-use mathlib.Core.Logic.{⊎_elim}
-use borrow.Author.Rules.{rules}
-use native.Mathlib.Omega.{arith}
+use Prim.Native.Nat.{◌≤◌, ◌-◌}
+use mathlib.Core.Path.{◌≡◌}
 use Rattle.tree_levels.proofs.count_joins.Given as goal
 
 -- The invariant: the classes absorbed below slot i are counted. Assumes nothing.

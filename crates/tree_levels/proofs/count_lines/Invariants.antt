@@ -1,10 +1,7 @@
-use Rattle.tree_levels.proofs.LevelSteps.{slots_none, tally_yes, tally_no}
 use Rattle.tree_levels.specs.LevelModel.{start_slots}
 use lib.ListN.{length}
-use Prim.Native.Nat.{ℕ, ◌+◌, ◌≤◌, ◌-◌}
-use mathlib.Core.Path.{◌≡◌, sym, ap, ◌∙◌}
-use mathlib.Core.Logic.{⊎_elim}
-use native.Mathlib.Omega.{arith}
+use Prim.Native.Nat.{◌≤◌, ◌-◌}
+use mathlib.Core.Path.{◌≡◌}
 use Rattle.tree_levels.proofs.count_lines.Given as goal
 
 -- The invariant: n counts the lines that start below slot i. Assumes nothing.

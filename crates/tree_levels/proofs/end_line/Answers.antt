@@ -4,7 +4,6 @@ use Rattle.sets.specs.Value.{number_at}
 use native.Mathlib.Numerals.{add-one}
 use Prim.Native.Nat.{ℕ, suc}
 use mathlib.Core.Path.{ap, ◌∙◌}
-use borrow.Author.Rules.{rules}
 use Rattle.tree_levels.proofs.end_line.Goals as goal
 
 pub returns-then-before-r : goal.returns-then-before-r

@@ -1,13 +1,7 @@
 use Rattle.tree_levels.specs.LevelModel.{WentTo}
-use Rattle.tree_levels.proofs.LineNumbers.{went_none, went_no, went_yes}
-use Rattle.sets.specs.Value.{number_at}
 use lib.ListN.{length}
-use native.Mathlib.Numerals.{add-one}
-use Prim.Native.Nat.{ℕ, suc, ◌≤◌, ◌-◌}
-use mathlib.Core.Path.{◌≡◌, refl, sym, ap, subst, ◌∙◌}
-use mathlib.Core.Logic.{⊎_elim}
-use borrow.Author.Rules.{rules}
-use native.Mathlib.Omega.{arith}
+use Prim.Native.Nat.{◌≤◌, ◌-◌}
+use mathlib.Core.Path.{◌≡◌}
 use Rattle.tree_levels.proofs.join_lines.Given as goal
 
 -- The invariant: the lines of classes absorbed below slot i go into others. Assumes nothing.

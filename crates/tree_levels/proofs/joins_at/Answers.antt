@@ -2,7 +2,6 @@ use Rattle.tree_levels.proofs.LevelSteps.{joins_new, joins_old}
 use Rattle.sets.specs.Value.{number_at}
 use native.Mathlib.Numerals.{add-one}
 use mathlib.Core.Path.{sym, ap, ◌∙◌}
-use borrow.Author.Rules.{rules}
 use Rattle.tree_levels.proofs.joins_at.Goals as goal
 
 pub returns-then-before-r : goal.returns-then-before-r

@@ -1,5 +1,4 @@
 use Rattle.tree_levels.proofs.LevelSteps.{joins_first, joins_more, joins_full}
-use borrow.Author.Rules.{rules}
 use Rattle.tree_levels.proofs.more_joins.Goals as goal
 
 pub returns-then-n-eq0 : goal.returns-then-n-eq0

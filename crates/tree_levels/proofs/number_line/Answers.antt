@@ -1,7 +1,6 @@
 use Rattle.tree_levels.proofs.LineNumbers.{numbered_one, stored_one}
 use mathlib.Core.Path.{refl}
 use native.Mathlib.Omega.{arith}
-use borrow.Author.Rules.{rules}
 use Rattle.tree_levels.proofs.number_line.Goals as goal
 
 pub end_line-requires : goal.end_line-requires

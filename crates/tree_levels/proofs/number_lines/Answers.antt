@@ -1,9 +1,7 @@
 use Rattle.tree_levels.proofs.LineNumbers.{numbers_none, numbers_more}
 use Rattle.tree_levels.specs.LevelModel.{NumbersTo}
-use lib.ListN.{length}
-use Prim.Native.Nat.{ℕ, ◌≤◌, ◌-◌}
+use Prim.Native.Nat.{ℕ, ◌-◌}
 use mathlib.Core.Path.{◌≡◌, refl, subst, ◌∙◌}
-use borrow.Author.Rules.{rules}
 use native.Mathlib.Omega.{arith}
 use Rattle.tree_levels.proofs.number_lines.Goals as goal
 
@@ -17,9 +15,9 @@ loop-m-preserved c =
     let o = c.number_line in (
       omega arith,
       omega arith,
-      o.auto.0 ∙ l.invariant.2,
-      o.auto.1.0 ∙ l.invariant.3,
-      o.auto.1.1.1.0 ∙ l.invariant.4,
+      o.auto.smallest ∙ l.invariant.2,
+      o.auto.unions ∙ l.invariant.3,
+      o.auto.out ∙ l.invariant.4,
       numbers_more a.before a.from _ l.m _ _ a.smallest.now a.unions.now a.out.now a.n l.smallest l.unions l.out _ _ _ l.invariant.0 refl refl refl l.invariant.5 o.ensures,
     )
 

@@ -1,10 +1,7 @@
-use Rattle.tree_levels.proofs.LineNumbers.{numbers_none, numbers_more}
 use Rattle.tree_levels.specs.LevelModel.{NumbersTo}
 use lib.ListN.{length}
-use Prim.Native.Nat.{ℕ, ◌≤◌, ◌-◌}
-use mathlib.Core.Path.{◌≡◌, refl, subst, ◌∙◌}
-use borrow.Author.Rules.{rules}
-use native.Mathlib.Omega.{arith}
+use Prim.Native.Nat.{◌≤◌, ◌-◌}
+use mathlib.Core.Path.{◌≡◌}
 use Rattle.tree_levels.proofs.number_lines.Given as goal
 
 -- The invariant: the lines up to m have their numbers. Assumes nothing.

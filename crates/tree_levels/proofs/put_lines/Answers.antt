@@ -1,13 +1,12 @@
-use Rattle.tree_levels.proofs.LineFilling.{LinesFilled, filled_none, filled_no, filled_yes}
+use Rattle.tree_levels.proofs.LineFilling.{filled_none, filled_no, filled_yes}
 use Rattle.tree_levels.specs.LevelModel.{start_slots, FilledTo}
 use Rattle.sets.proofs.Held.{held}
 use lib.ListN.{length}
-use Prim.Native.Nat.{ℕ, ◌+◌, ◌≤◌, ◌-◌}
+use Prim.Native.Nat.{ℕ, ◌+◌}
 use mathlib.Core.Path.{◌≡◌, sym, ap, subst, ◌∙◌}
-use mathlib.Core.Logic.{⊎_elim}
-use borrow.Author.Rules.{rules}
 use native.Mathlib.Omega.{arith}
 use Rattle.tree_levels.proofs.put_lines.Goals as goal
+use Rattle.tree_levels.proofs.put_lines.Goals.{then-starts, else-starts}
 
 pub loop-i-init : goal.loop-i-init
 loop-i-init c = (omega arith, filled_none _ _ _ _ _ _ _ _)
@@ -22,14 +21,16 @@ pub loop-i-preserved : goal.loop-i-preserved
 loop-i-preserved c =
     let l = c.loop-i in
     let a = c.args in
-    let t = sym c.starts.ensures in
-    ⊎_elim
-    (λ w. (
+    let t = sym c.starts.ensures in (
       omega arith,
-      filled_yes a.weight a.entries.now a.smallest.now a.unions.now a.before a.used a.out.now a.n l.i l.m l.out l.invariant.1 _ _ _ _ _ _ (t ∙ w.0.taken) (omega arith) w.3.ensures w.4.ensures w.1.ensures (held w.3.result w.3.ok) w.5.ensures w.5.kept.0 w.9 w.8,
-    ))
-    (λ w. (omega arith, filled_no a.weight a.entries.now a.smallest.now a.unions.now a.before a.used a.out.now a.n l.i l.m l.out l.invariant.1 _ _ (t ∙ w.0.left) w.2 w.1))
-    c.if-starts.branch
+      elim c.if-starts.branch [
+        | then-starts w ↦
+            filled_yes a.weight a.entries.now a.smallest.now a.unions.now a.before a.used a.out.now a.n l.i l.m l.out l.invariant.1 _ _ _ _ _ _ (t ∙ w.if-starts.true) (omega arith)
+                w.at.ensures w.at-then-starts.ensures w.joins_at-joins.ensures (held w.at.result w.at.type_inv) w.put_line.ensures w.put_line.auto.out w.m-is w.out-is
+        | else-starts w ↦
+            filled_no a.weight a.entries.now a.smallest.now a.unions.now a.before a.used a.out.now a.n l.i l.m l.out l.invariant.1 _ _ (t ∙ w.if-starts.false) w.m-is w.out-is
+      ],
+    )
 
 pub shape_of-out : goal.shape_of-out
 shape_of-out c = c.loop-i.invariant.1.long

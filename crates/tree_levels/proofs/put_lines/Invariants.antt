@@ -1,12 +1,5 @@
-use Rattle.tree_levels.proofs.LineFilling.{LinesFilled, filled_none, filled_no, filled_yes}
-use Rattle.tree_levels.specs.LevelModel.{start_slots, FilledTo}
-use Rattle.sets.proofs.Held.{held}
-use lib.ListN.{length}
-use Prim.Native.Nat.{ℕ, ◌+◌, ◌≤◌, ◌-◌}
-use mathlib.Core.Path.{◌≡◌, sym, ap, subst, ◌∙◌}
-use mathlib.Core.Logic.{⊎_elim}
-use borrow.Author.Rules.{rules}
-use native.Mathlib.Omega.{arith}
+use Rattle.tree_levels.proofs.LineFilling.{LinesFilled}
+use Prim.Native.Nat.{◌≤◌, ◌-◌}
 use Rattle.tree_levels.proofs.put_lines.Given as goal
 
 -- The invariant: the output holds the lines that start below slot i, behind the first n. Assumes nothing.

@@ -1,11 +1,9 @@
 use Rattle.tree_levels.specs.LevelModel.{GrewTo}
 use Rattle.tree_levels.proofs.LineUnions.{growth_none, growth_no, growth_yes}
 use Rattle.sets.specs.Value.{number_at}
-use lib.ListN.{length}
 use native.Mathlib.Numerals.{add-one}
-use Prim.Native.Nat.{ℕ, ◌≤◌, ◌-◌}
+use Prim.Native.Nat.{ℕ}
 use mathlib.Core.Path.{◌≡◌, refl, sym, ap, subst, ◌∙◌}
-use borrow.Author.Rules.{rules}
 use native.Mathlib.Omega.{arith}
 use Rattle.tree_levels.proofs.show_growth.Goals as goal
 
@@ -20,7 +18,7 @@ loop-r-preserved-then-is_root c =
     let ms = a.smallest.now in
     let p = c.put_whole in (
       omega arith,
-      p.auto.0 ∙ l.invariant.1,
+      p.auto.out ∙ l.invariant.1,
       growth_yes a.entries.now ms a.unions.now a.out.now l.out a.n l.r l.invariant.2 _ _ _
           (sym t.is_root.ensures ∙ t.if-is_root.true) (c.note_at-line.ensures ∙ ap (number_at ms) (add-one l.r))
           c.at.ensures (λ f u X rest e k. p.ensures f u X rest e k),

@@ -1,13 +1,11 @@
 use Rattle.tree_levels.proofs.LevelSteps.{starts_new, starts_old}
 use Rattle.sets.proofs.Tests.{and_stop, and_go}
 use Rattle.sets.specs.Value.{number_at}
-use borrow.Author.Tests.{not-true, not-false}
 use lib.Dec.{eqb}
 use native.Mathlib.Numerals.{add-one}
 use Prim.Native.Nat.{ℕ}
 use mathlib.Core.Bool.{not}
 use mathlib.Core.Path.{sym, ap, ◌∙◌}
-use borrow.Author.Rules.{rules}
 use Rattle.tree_levels.proofs.starts.Goals as goal
 
 pub returns-then-not-is_root : goal.returns-then-not-is_root

@@ -1,13 +1,10 @@
 use Rattle.tree_levels.proofs.LevelSteps.{swept_none, swept_kept, swept_more}
 use Rattle.tree_levels.specs.LevelModel.{wiped}
 use mathlib.Core.Bool.{not}
-use lib.ListN.{length}
-use Prim.Native.Nat.{◌≤◌, ◌-◌}
 use mathlib.Core.Path.{◌≡◌, refl, sym, ap, ◌∙◌}
-use mathlib.Core.Logic.{⊎_elim}
-use borrow.Author.Rules.{rules}
 use native.Mathlib.Omega.{arith}
 use Rattle.tree_levels.proofs.wipe.Goals as goal
+use Rattle.tree_levels.proofs.wipe.Goals.{then-not-is_root, else-not-is_root}
 
 pub loop-i-init : goal.loop-i-init
 loop-i-init c = (omega arith, refl, sym (swept_none _ _ _ _))
@@ -16,11 +13,15 @@ pub loop-i-preserved : goal.loop-i-preserved
 loop-i-preserved c =
     let l = c.loop-i in
     let a = c.args in
-    let t = ap not (sym c.is_root.ensures) in
-    ⊎_elim
-    (λ w. (omega arith, ap length w.6 ∙ w.3.kept.0 ∙ l.invariant.1, swept_more _ _ _ a.unions.now l.i l.unions _ l.invariant.2 (t ∙ w.0.taken) _ _ refl w.2.ensures (w.6 ∙ w.3.ensures)))
-    (λ w. (omega arith, ap length w.1 ∙ l.invariant.1, swept_kept _ _ _ a.unions.now l.i l.unions _ l.invariant.2 (t ∙ w.0.left) w.1))
-    c.if-not-is_root.branch
+    let t = ap not (sym c.is_root.ensures) in (
+      omega arith,
+      c.if-not-is_root.auto.unions ∙ l.invariant.1,
+      elim c.if-not-is_root.branch [
+        | then-not-is_root w ↦
+            swept_more _ _ _ a.unions.now l.i l.unions _ l.invariant.2 (t ∙ ap not w.if-not-is_root.true) _ _ refl w.empty.ensures (w.unions-is ∙ w.put.ensures)
+        | else-not-is_root w ↦ swept_kept _ _ _ a.unions.now l.i l.unions _ l.invariant.2 (t ∙ ap not w.if-not-is_root.false) w.unions-is
+      ],
+    )
 
 pub shape_of-unions : goal.shape_of-unions
 shape_of-unions c = c.loop-i.invariant.1

@@ -1,12 +1,7 @@
-use Rattle.tree_levels.proofs.LevelSteps.{swept_none, swept_kept, swept_more}
 use Rattle.tree_levels.specs.LevelModel.{wiped}
-use mathlib.Core.Bool.{not}
 use lib.ListN.{length}
 use Prim.Native.Nat.{◌≤◌, ◌-◌}
-use mathlib.Core.Path.{◌≡◌, refl, sym, ap, ◌∙◌}
-use mathlib.Core.Logic.{⊎_elim}
-use borrow.Author.Rules.{rules}
-use native.Mathlib.Omega.{arith}
+use mathlib.Core.Path.{◌≡◌}
 use Rattle.tree_levels.proofs.wipe.Given as goal
 
 -- The invariant: the rows of slots below i that are no ends are empty. Assumes nothing.
