@@ -3,7 +3,7 @@
 
 run:
 	@tests/need-toolchain
-	@tests/quiet rt check families
+	@tests/program families
 	@tests/shown 'families pack < examples/bench.txt > target/bench.sheet'
 	@tests/shown 'families listing 3 12 target/bench.sheet'
 	@tests/shown 'families tree 3 target/bench.sheet'

@@ -2,7 +2,6 @@ use mathlib.Core.Path.{ap, ◌∙◌}
 use mathlib.Core.List.{List}
 use Prim.Native.Nat.{ℕ}
 use Rattle.checks.specs.Model.{with_neighbour, marked}
-use borrow.Author.Rules.{rules}
 use Rattle.checks.proofs.add_link.Goals as goal
 
 pub returns : goal.returns

@@ -1,5 +1,4 @@
 use mathlib.Core.Path.{sym, ◌∙◌}
-use borrow.Author.Rules.{rules}
 use Rattle.sets.proofs.Tests.{and_stop, and_go}
 use Rattle.percolation.specs.Links.{inside}
 use Rattle.checks.proofs.has_both.Goals as goal

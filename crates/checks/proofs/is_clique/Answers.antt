@@ -1,11 +1,9 @@
 use mathlib.Core.Path.{sym, ap, ap₂, ◌∙◌}
 use native.Mathlib.Omega.{arith}
-use borrow.Author.Rules.{rules}
-use borrow.Author.Tests.{not-true, not-false}
 use Rattle.sets.specs.Sets.{sub}
 use Rattle.sets.specs.Value.{num}
 use Rattle.sets.proofs.Laws.{sub_has}
-use Rattle.checks.proofs.Cliques13.{Seen, seen_none, part_in, part_less, seen_more, not_sized, not_fitting, not_linked, all_linked}
+use Rattle.checks.proofs.Cliques13.{seen_none, part_in, part_less, seen_more, not_sized, not_fitting, not_linked, all_linked}
 use Rattle.checks.proofs.is_clique.Goals as goal
 
 pub returns-then-count-k : goal.returns-then-count-k

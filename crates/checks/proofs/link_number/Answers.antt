@@ -1,8 +1,6 @@
 use mathlib.Core.Path.{sym, ap, ◌∙◌}
-use borrow.Author.Tests.{not-true, not-false}
 use Rattle.sets.specs.Sets.{has}
 use Rattle.checks.proofs.Numbers.{parts_alone, number_6, number_7, number_8, number_9, number_0}
-use borrow.Author.Rules.{rules}
 use Rattle.checks.proofs.link_number.Goals as goal
 
 pub returns-then-not-good_parts : goal.returns-then-not-good_parts

@@ -5,7 +5,6 @@ use lib.Dec.{ltb}
 use Rattle.sets.specs.Sets.{into}
 use Rattle.sets.specs.Value.{width, store}
 use Rattle.checks.specs.Model.{with_neighbour}
-use borrow.Author.Rules.{rules}
 use Rattle.checks.proofs.mark.Goals as goal
 
 pub returns : goal.returns

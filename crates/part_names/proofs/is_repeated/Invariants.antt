@@ -1,11 +1,6 @@
-use mathlib.Core.Path.{◌≡◌, refl, sym, ◌∙◌}
-use mathlib.Core.Bool.{false}
+use mathlib.Core.Path.{◌≡◌}
 use Prim.Native.Nat.{ℕ, ◌≤◌, ◌<◌, ◌-◌, ◌*◌}
-use native.Mathlib.Omega.{arith}
-use borrow.Author.Rules.{rules}
-use Rattle.sets.proofs.Tests.{never, one_more}
 use Rattle.part_names.specs.Names.{eight_at}
-use Rattle.part_names.proofs.Form.{repeated_none, repeated_at}
 use Rattle.part_names.proofs.is_repeated.Given as goal
 
 -- The invariant: none of the names before i is name q. Assumes nothing.

@@ -1,9 +1,6 @@
-use mathlib.Core.Path.{◌≡◌, refl, sym, ◌∙◌}
+use mathlib.Core.Path.{refl, sym, ◌∙◌}
 use native.Mathlib.Omega.{arith}
 use borrow.Author.Tests.{eq-eqb, ne_eqb}
-use Prim.Native.Nat.{◌≤◌, ◌-◌}
-use lib.ListN.{length, drop}
-use Rattle.part_names.specs.Names.{spaces}
 use Rattle.sets.proofs.Tests.{and_stop, and_go}
 use Rattle.part_names.proofs.Form.{spaces_at, spaces_end}
 use borrow.Author.Rules.{rules}

@@ -1,8 +1,6 @@
 use Prim.Native.Nat.{ℕ, ◌≤◌, ◌<◌, ◌-◌, ◌*◌}
-use mathlib.Core.Path.{◌≡◌, sym, ap, ◌∙◌}
+use mathlib.Core.Path.{◌≡◌}
 use mathlib.Core.Bool.{true, not}
-use native.Mathlib.Omega.{arith}
-use Rattle.sets.proofs.Tests.{one_more}
 use Rattle.part_names.specs.Names.{eight_at, repeated}
 use Rattle.part_names.proofs.repeated_name.Given as goal
 

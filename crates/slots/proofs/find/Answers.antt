@@ -1,11 +1,8 @@
-use Prim.Native.Nat.{◌≤◌, ◌-◌}
-use mathlib.Core.Path.{◌≡◌, sym, ◌∙◌}
+use mathlib.Core.Path.{sym, ◌∙◌}
 use native.Mathlib.Nat.{sub-zero}
 use native.Mathlib.Omega.{arith}
-use borrow.Author.Rules.{rules}
 use borrow.Author.Tests.{eqb-true, eqb-false}
-use Rattle.sets.specs.Value.{num}
-use Rattle.slots.specs.Model.{find_from, find}
+use Rattle.slots.specs.Model.{find}
 use Rattle.slots.proofs.Finding.{find_hit, find_miss, find_end}
 use Rattle.slots.proofs.find.Goals as goal
 

@@ -1,7 +1,6 @@
 use native.Mathlib.Omega.{arith}
 use lib.ListN.{length-set}
 use Rattle.slots.proofs.Steps.{join_is}
-use borrow.Author.Rules.{rules}
 use Rattle.slots.proofs.join.Goals as goal
 
 pub shape_of-entries : goal.shape_of-entries

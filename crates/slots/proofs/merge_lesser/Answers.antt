@@ -1,6 +1,5 @@
 use Rattle.sets.specs.Sets.{lesser}
 use Rattle.slots.proofs.Steps.{merged_is}
-use borrow.Author.Rules.{rules}
 use Rattle.slots.proofs.merge_lesser.Goals as goal
 
 pub returns : goal.returns

@@ -3,7 +3,6 @@ use mathlib.Core.Path.{sym}
 use Rattle.slots.proofs.Cases.{placed_old, placed_full}
 use Rattle.slots.proofs.Lengths.{room_within}
 use Rattle.slots.proofs.Steps.{place_new}
-use borrow.Author.Rules.{rules}
 use Rattle.slots.proofs.place.Goals as goal
 
 pub returns-then-i-used : goal.returns-then-i-used

@@ -1,7 +1,6 @@
 use mathlib.Core.Path.{ap, ◌∙◌}
 use Prim.Native.Nat.{min}
 use Rattle.slots.specs.Tables.{room}
-use borrow.Author.Rules.{rules}
 use Rattle.slots.proofs.room.Goals as goal
 
 pub returns : goal.returns

@@ -1,5 +1,4 @@
 use mathlib.Core.Path.{ap, ◌∙◌}
-use borrow.Author.Rules.{rules}
 use Rattle.slots.specs.Model.{find}
 use Rattle.slots.proofs.Peel.{peeled}
 use Rattle.slots.proofs.slot_of.Goals as goal
