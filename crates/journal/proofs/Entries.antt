@@ -3,13 +3,13 @@ use mathlib.Core.Path.{◌≡◌, refl, sym, ap, ap₂, ◌∙◌}
 use mathlib.Core.Bool.{true}
 use mathlib.Core.List.Memᴰ
 use mathlib.Core.List.{List, [], ◌∷◌, ◌++◌, map}
-use Prim.Native.Nat.{ℕ, zero, suc, ◌+◌, ◌-◌, ◌*◌, ◌/◌, ◌%◌, ◌≤◌, ◌<◌}
+use Prim.Native.Nat.{ℕ, zero, suc, ◌+◌, ◌-◌, ◌/◌, ◌%◌, ◌≤◌, ◌<◌}
 use native.Mathlib.Omega.{arith}
 use lib.ListN.{length, get_or, set, take, replicate, length-map, length-append, length-replicate}
 use lib.Seq.{take_at, set_at, get_or_at, take-suc, append_snoc}
 use Rattle.sets.specs.Lists.{◌∈◌, keep}
 use Rattle.sets.specs.Value.{width}
-use Rattle.sets.proofs.ListLaws.{keep_all, map_append, map_on}
+use Rattle.sets.proofs.ListLaws.{keep_all, map_append}
 use Rattle.percolation.specs.Links.{Link, link}
 use Rattle.percolation.specs.Steps.{good_parts, legal}
 use Rattle.percolation.proofs.Accepted.{good_parts_lem, legal_parts}

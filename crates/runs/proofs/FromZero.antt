@@ -6,7 +6,7 @@ use Prim.Native.Nat.{ℕ}
 use lib.ListN.{length, take, drop}
 use Rattle.answers.specs.Verdict.{accepted}
 use Rattle.sets.specs.Value.{no_rows}
-use Rattle.percolation.specs.Links.{Link, cliques, slots}
+use Rattle.percolation.specs.Links.{cliques, slots}
 use Rattle.percolation.specs.Steps.{enough}
 use Rattle.percolation.proofs.Ranges.{good_k_lem}
 use Rattle.slots.specs.Tables.{Tables}

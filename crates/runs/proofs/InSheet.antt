@@ -27,7 +27,7 @@ pub links_length : (s : List ℕ) → length (links_of s) ≡ links s
 links_length s = (sheet_given s).count
 
 pub link_at_lem : (s : List ℕ) (j : ℕ) (d : Link) → j < links s → get_or (links_of s) j d ≡ link_of s j
-link_at_lem s = (sheet_given s).link-at
+link_at_lem s = (sheet_given s).link_at_lem
 
 -- all links
 pub first_all : (s : List ℕ) (n : ℕ) → n ≡ links s → take n (links_of s) ≡ links_of s

@@ -32,21 +32,21 @@ given_list f m = record { count = list_of_length f m; link_at_lem = λ j d h. li
 module _ (L : List Link) (f : ℕ → Link) (m : ℕ) (g : Given L f m) where
   pub link_in_lem : (j : ℕ) → j < m → f j ∈ L
   link_in_lem j h =
-      subst (λ (l : Link). l ∈ L) (g.link-at j (link 0 0 0) h) (get_d_member L j (link 0 0 0) (omega (arith, g.count)))
+      subst (λ (l : Link). l ∈ L) (g.link_at_lem j (link 0 0 0) h) (get_d_member L j (link 0 0 0) (omega (arith, g.count)))
 
   -- the links below j, and one more
   pub first_more : (j : ℕ) → j < m → take (j + 1) L ≡ take j L ++ (f j ∷ [])
   first_more j h =
       let d = link 0 0 0 in
       ap (λ (n : ℕ). take n L) (add-one j) ∙ take-suc L j d (omega (arith, g.count))
-      ∙ ap (λ (l : Link). take j L ++ (l ∷ [])) (g.link-at j d h)
+      ∙ ap (λ (l : Link). take j L ++ (l ∷ [])) (g.link_at_lem j d h)
 
   -- the links from j on and below n: link j and the others; none from n on
   pub next_link : (n j : ℕ) → j < n → n ≤ m → drop j (take n L) ≡ f j ∷ drop (j + 1) (take n L)
   next_link n j h w =
       let d = link 0 0 0 in
       drop-cons (take n L) j d (omega (arith, length-take-le n L (omega (arith, g.count))))
-      ∙ ap₂ (λ (l : Link) (i : ℕ). l ∷ drop i (take n L)) (get_or-take n L j d h ∙ g.link-at j d (omega arith)) (sym (add-one j))
+      ∙ ap₂ (λ (l : Link) (i : ℕ). l ∷ drop i (take n L)) (get_or-take n L j d h ∙ g.link_at_lem j d (omega arith)) (sym (add-one j))
 
   pub no_link : (n j : ℕ) → j ≡ n → n ≤ m → drop j (take n L) ≡ []
   no_link n j e w = drop_of_length-le (take n L) {i = j} (omega (arith, length-take-le n L (omega (arith, g.count))))
@@ -96,7 +96,7 @@ module _ (L : List Link) (f : ℕ → Link) (m : ℕ) (g : Given L f m) where
 
     pub weighs_less : (t j : ℕ) → j < m → AllHeavy t (take j L) → (f j).weight < t → take j L ≡ heavy t L
     weighs_less t j h a w =
-        take_stop p t L ok j (link 0 0 0) (omega (arith, g.count)) a (omega (arith, w, ap (λ (x : Link). x.weight) (g.link-at j (link 0 0 0) h)))
+        take_stop p t L ok j (link 0 0 0) (omega (arith, g.count)) a (omega (arith, w, ap (λ (x : Link). x.weight) (g.link_at_lem j (link 0 0 0) h)))
 
     pub weighs_all : (t j : ℕ) → j ≡ m → AllHeavy t (take j L) → take j L ≡ heavy t L
     weighs_all t j h a = take_every p t L ok j (h ∙ sym g.count) a

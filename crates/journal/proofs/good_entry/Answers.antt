@@ -1,5 +1,4 @@
 use Rattle.journal.proofs.Replayed.{bad_entry, good_entry}
-use borrow.Author.Rules.{rules}
 use Rattle.journal.proofs.good_entry.Goals as goal
 
 pub returns-then-p-high_of : goal.returns-then-p-high_of

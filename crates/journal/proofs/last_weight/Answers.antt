@@ -1,5 +1,4 @@
 use Rattle.journal.proofs.Entries.{last_zero, last_one}
-use borrow.Author.Rules.{rules}
 use Rattle.journal.proofs.last_weight.Goals as goal
 
 pub returns-then-n-eq0 : goal.returns-then-n-eq0

@@ -1,7 +1,6 @@
 use mathlib.Core.Path.{ap₂, ◌∙◌}
 use Rattle.sets.specs.Sets.{meet}
 use Rattle.journal.proofs.Refilled.{none_made}
-use borrow.Author.Rules.{rules}
 use Rattle.journal.proofs.makes_none.Goals as goal
 
 pub returns : goal.returns

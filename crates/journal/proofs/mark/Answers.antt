@@ -2,8 +2,6 @@ use mathlib.Core.Path.{sym, ◌∙◌}
 use mathlib.Core.List.{[]}
 use Rattle.slots.specs.Tables.{tables}
 use Rattle.journal.proofs.Replayed.{skip_rows, one_rows}
-use borrow.Author.Tests.{not-true, not-false}
-use borrow.Author.Rules.{rules}
 use Rattle.journal.proofs.mark.Goals as goal
 
 pub returns-then-not-good_entry : goal.returns-then-not-good_entry

@@ -1,6 +1,5 @@
 use mathlib.Core.Path.{sym, ◌∙◌}
 use Rattle.journal.proofs.Refilled.{code_kept, code_made}
-use borrow.Author.Rules.{rules}
 use Rattle.journal.proofs.refill.Goals as goal
 
 pub returns-then-makes_none : goal.returns-then-makes_none

@@ -1,10 +1,5 @@
 use mathlib.Core.Path.{◌≡◌, refl, ◌∙◌}
 use native.Mathlib.Omega.{arith}
-use Prim.Native.Nat.{◌≤◌, ◌-◌}
-use lib.ListN.{length, take, drop}
-use Rattle.slots.specs.Tables.{tables, room}
-use Rattle.runs.specs.Model.{rows_with, took_links}
-use Rattle.journal.specs.Model.{readable}
 use Rattle.journal.proofs.Replayed.{rows_next, rows_end, tables_next, tables_end}
 use Rattle.journal.proofs.replay.Goals as goal
 
@@ -28,14 +23,14 @@ loop-next-preserved c =
     let h = c.loop-next-test.true in
     let w = c.requires.0 in (
       omega (arith, h),
-      t.ensures.1.1,
-      rows_next a.journal.now a.n w a.p l.rows _ l.next h t.ensures.1.0 ∙ l.invariant.2,
-      tables_next a.journal.now a.n w a.p a.k l.rows _ _ _ l.next h t.ensures.1.0 t.ensures.0 ∙ l.invariant.3,
-      t.auto.1.1.1.0 ∙ l.invariant.4,
-      t.auto.1.1.1.1.0 ∙ l.invariant.5,
-      t.auto.1.1.1.1.1.0 ∙ l.invariant.6,
-      t.auto.1.1.1.1.1.1.0 ∙ l.invariant.7,
-      t.auto.1.1.1.1.1.1.1.0 ∙ l.invariant.8,
+      t.ensures.rows_after.1,
+      rows_next a.journal.now a.n w a.p l.rows _ l.next h t.ensures.rows_after.0 ∙ l.invariant.2,
+      tables_next a.journal.now a.n w a.p a.k l.rows _ _ _ l.next h t.ensures.rows_after.0 t.ensures.result_after ∙ l.invariant.3,
+      t.auto.rows ∙ l.invariant.4,
+      t.auto.sets ∙ l.invariant.5,
+      t.auto.entries ∙ l.invariant.6,
+      t.auto.smallest ∙ l.invariant.7,
+      t.auto.unions ∙ l.invariant.8,
     )
 
 pub shape_of-rows : goal.shape_of-rows

@@ -1,11 +1,9 @@
-use mathlib.Core.Path.{◌≡◌, refl, ◌∙◌}
-use native.Mathlib.Omega.{arith}
+use mathlib.Core.Path.{◌≡◌}
 use Prim.Native.Nat.{◌≤◌, ◌-◌}
 use lib.ListN.{length, take, drop}
 use Rattle.slots.specs.Tables.{tables, room}
 use Rattle.runs.specs.Model.{rows_with, took_links}
 use Rattle.journal.specs.Model.{readable}
-use Rattle.journal.proofs.Replayed.{rows_next, rows_end, tables_next, tables_end}
 use Rattle.journal.proofs.replay.Given as goal
 
 abbrev pub invariant-loop-next : goal.invariant-loop-next

@@ -1,11 +1,9 @@
 use mathlib.Core.Path.{sym, ◌∙◌}
 use mathlib.Core.List.{[]}
 use native.Mathlib.Omega.{arith}
-use borrow.Author.Tests.{not-true, not-false}
 use Rattle.percolation.proofs.Accepted.{good_parts_lem}
 use Rattle.slots.specs.Tables.{tables}
 use Rattle.journal.proofs.Replayed.{skip_rows, skip_tables, one_rows, one_tables}
-use borrow.Author.Rules.{rules}
 use Rattle.journal.proofs.retake.Goals as goal
 
 pub returns-then-not-good_entry : goal.returns-then-not-good_entry
@@ -23,4 +21,4 @@ pub returns : goal.returns
 returns c =
     let t = sym c.good_entry.ensures ∙ c.if-not-good_entry.false in
     let d = c.take_link in
-    record { result_after = one_tables _ _ _ _ _ t _ _ c.low_of-low.ensures c.high_of-high.ensures _ d.ensures.0; rows_after = (one_rows _ _ c.args.k _ (tables [] [] [] [] 0) t _ _ c.low_of-low.ensures c.high_of-high.ensures _ d.ensures.1.0, d.ensures.1.1) }
+    record { result_after = one_tables _ _ _ _ _ t _ _ c.low_of-low.ensures c.high_of-high.ensures _ d.ensures.result_after; rows_after = (one_rows _ _ c.args.k _ (tables [] [] [] [] 0) t _ _ c.low_of-low.ensures c.high_of-high.ensures _ d.ensures.rows_after.0, d.ensures.rows_after.1) }

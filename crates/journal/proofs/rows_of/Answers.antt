@@ -1,10 +1,8 @@
-use mathlib.Core.Path.{◌≡◌, sym, ap, ◌∙◌}
+use mathlib.Core.Path.{sym, ap, ◌∙◌}
 use mathlib.Core.List.{List}
 use native.Mathlib.Omega.{arith}
-use borrow.Author.Rules.{rules}
-use Prim.Native.Nat.{ℕ, ◌≤◌, ◌-◌}
-use lib.ListN.{length, take, drop}
-use Rattle.sets.specs.Value.{no_rows}
+use Prim.Native.Nat.{ℕ}
+use lib.ListN.{length, take}
 use Rattle.sets.proofs.Tables.{length_none}
 use Rattle.runs.specs.Model.{rows_with}
 use Rattle.journal.specs.Model.{readable}
@@ -31,7 +29,7 @@ loop-j-preserved c =
     let l = c.loop-j in (
       omega arith,
       rows_next a.journal.now a.n c.requires a.p l.rows _ l.j c.loop-j-test.true c.mark.ensures ∙ l.invariant.1,
-      c.mark.auto.1.1.0 ∙ l.invariant.2,
+      c.mark.auto.rows ∙ l.invariant.2,
     )
 
 pub returns : goal.returns

@@ -1,14 +1,9 @@
-use mathlib.Core.Path.{◌≡◌, sym, ap, ◌∙◌}
-use mathlib.Core.List.{List}
-use native.Mathlib.Omega.{arith}
-use borrow.Author.Rules.{rules}
-use Prim.Native.Nat.{ℕ, ◌≤◌, ◌-◌}
+use mathlib.Core.Path.{◌≡◌}
+use Prim.Native.Nat.{◌≤◌, ◌-◌}
 use lib.ListN.{length, take, drop}
 use Rattle.sets.specs.Value.{no_rows}
-use Rattle.sets.proofs.Tables.{length_none}
 use Rattle.runs.specs.Model.{rows_with}
 use Rattle.journal.specs.Model.{readable}
-use Rattle.journal.proofs.Replayed.{rows_next, rows_end}
 use Rattle.journal.proofs.rows_of.Given as goal
 
 abbrev pub invariant-loop-j : goal.invariant-loop-j

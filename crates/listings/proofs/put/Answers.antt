@@ -1,7 +1,6 @@
 use mathlib.Core.Path.{ap}
 use Prim.Native.Nat.{ℕ, ◌+◌, ◌*◌}
 use native.Mathlib.Omega.{arith}
-use borrow.Author.Rules.{rules}
 use Rattle.sets.specs.Value.{num}
 use Rattle.listings.proofs.Places.{put_whole}
 use Rattle.listings.proofs.put.Goals as goal

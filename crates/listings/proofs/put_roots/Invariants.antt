@@ -1,10 +1,5 @@
-use mathlib.Core.Logic.{⊎_elim}
-use mathlib.Core.Path.{sym, ◌∙◌}
 use Prim.Native.Nat.{◌≤◌, ◌-◌}
-use native.Mathlib.Omega.{arith}
-use borrow.Author.Rules.{rules}
-use Rattle.sets.proofs.Held.{held}
-use Rattle.listings.proofs.Filling.{Filled, filled_none, filled_no, filled_room, filled_yes, filled_end}
+use Rattle.listings.proofs.Filling.{Filled}
 use Rattle.listings.proofs.put_roots.Given as goal
 
 -- The invariant: the output holds the listing of the n ends among the slots below i. Assumes nothing.

@@ -1,11 +1,7 @@
-use mathlib.Core.Logic.{⊎_elim}
-use mathlib.Core.Path.{◌≡◌, sym, ap, ◌∙◌}
-use Prim.Native.Nat.{ℕ, ◌+◌, ◌≤◌, ◌-◌}
-use native.Mathlib.Omega.{arith}
-use borrow.Author.Rules.{rules}
+use mathlib.Core.Path.{◌≡◌}
+use Prim.Native.Nat.{◌≤◌, ◌-◌}
 use lib.ListN.{length}
 use Rattle.listings.specs.Model.{root_slots}
-use Rattle.listings.proofs.Filling.{ends_none, ends_yes, ends_no}
 use Rattle.listings.proofs.roots.Given as goal
 
 -- The invariant: n counts the ends among the slots below i. Assumes nothing.

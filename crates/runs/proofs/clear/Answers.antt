@@ -1,4 +1,3 @@
-use borrow.Author.Rules.{rules}
 use Rattle.runs.proofs.Left.{cleared_lists}
 use Rattle.runs.proofs.clear.Goals as goal
 

@@ -1,5 +1,4 @@
 use native.Mathlib.Omega.{arith}
-use borrow.Author.Rules.{rules}
 use Rattle.runs.proofs.Calls.{slots_first}
 use Rattle.runs.proofs.InSheet.{parts_width}
 use Rattle.runs.proofs.has_slots.Goals as goal

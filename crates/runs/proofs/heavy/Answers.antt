@@ -1,11 +1,8 @@
 use mathlib.Core.Path.{ap}
 use native.Mathlib.Omega.{arith}
-use Prim.Native.Nat.{◌≤◌, ◌-◌}
-use lib.ListN.{take}
 use Rattle.percolation.specs.Links.{Link}
-use Rattle.sheet.specs.Sheet.{links_of}
 use Rattle.sheet.proofs.Sound.{sheet_legal}
-use Rattle.runs.proofs.Falling.{AllHeavy, none_heavy}
+use Rattle.runs.proofs.Falling.{none_heavy}
 use Rattle.runs.proofs.InSheet.{sheet_given}
 use Rattle.runs.proofs.LinkList.{weighs_more, weighs_less, weighs_all}
 use Rattle.runs.proofs.heavy.Goals as goal

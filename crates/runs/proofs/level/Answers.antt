@@ -1,4 +1,3 @@
-use borrow.Author.Rules.{rules}
 use Rattle.runs.proofs.Left.{level_one, level_two, level_three}
 use Rattle.runs.proofs.level.Goals as goal
 

@@ -1,10 +1,8 @@
-use mathlib.Core.Path.{◌≡◌, sym, ap, ◌∙◌}
+use mathlib.Core.Path.{sym, ap, ◌∙◌}
 use native.Mathlib.Omega.{arith}
-use borrow.Author.Rules.{rules}
 use mathlib.Core.List.{List}
-use Prim.Native.Nat.{ℕ, ◌≤◌, ◌-◌}
-use lib.ListN.{length, take, drop}
-use Rattle.sets.specs.Value.{no_rows}
+use Prim.Native.Nat.{ℕ}
+use lib.ListN.{length, take}
 use Rattle.sets.proofs.Tables.{length_none}
 use Rattle.sheet.specs.Sheet.{links_of}
 use Rattle.runs.specs.Model.{rows_with}
@@ -29,7 +27,7 @@ loop-j-preserved c =
     let l = c.loop-j in (
       omega arith,
       rows_next _ _ _ (sheet_given a.sheet.now) a.n c.requires.1 l.rows _ l.j _ c.loop-j-test.true c.link-l.ensures.0 c.add_link.ensures ∙ l.invariant.1,
-      c.add_link.auto.0 ∙ l.invariant.2,
+      c.add_link.auto.rows ∙ l.invariant.2,
     )
 
 pub returns : goal.returns

@@ -1,15 +1,9 @@
-use mathlib.Core.Path.{◌≡◌, sym, ap, ◌∙◌}
-use native.Mathlib.Omega.{arith}
-use borrow.Author.Rules.{rules}
-use mathlib.Core.List.{List}
-use Prim.Native.Nat.{ℕ, ◌≤◌, ◌-◌}
+use mathlib.Core.Path.{◌≡◌}
+use Prim.Native.Nat.{◌≤◌, ◌-◌}
 use lib.ListN.{length, take, drop}
 use Rattle.sets.specs.Value.{no_rows}
-use Rattle.sets.proofs.Tables.{length_none}
 use Rattle.sheet.specs.Sheet.{links_of}
 use Rattle.runs.specs.Model.{rows_with}
-use Rattle.runs.proofs.InSheet.{sheet_given}
-use Rattle.runs.proofs.LinkList.{rows_next, rows_end}
 use Rattle.runs.proofs.rows_of.Given as goal
 
 abbrev pub invariant-loop-j : goal.invariant-loop-j

@@ -1,11 +1,6 @@
 use mathlib.Core.Path.{◌≡◌, refl, ap, ◌∙◌}
 use native.Mathlib.Omega.{arith}
-use Prim.Native.Nat.{◌≤◌, ◌-◌}
-use lib.ListN.{length, take, drop}
 use Rattle.percolation.specs.Links.{Link}
-use Rattle.slots.specs.Tables.{tables, room}
-use Rattle.sheet.specs.Sheet.{links_of}
-use Rattle.runs.specs.Model.{rows_with, took_links}
 use Rattle.runs.proofs.InSheet.{sheet_given, link_ends}
 use Rattle.runs.proofs.LinkList.{rows_next, rows_end, tables_next, tables_end}
 use Rattle.runs.proofs.take_links.Goals as goal
@@ -29,14 +24,14 @@ loop-j-preserved c =
     let t = c.take_link-n in
     let e = c.link-l.ensures.0 in (
       omega (arith, c.loop-j-test.true),
-      t.ensures.1.1,
-      rows_next _ _ _ (sheet_given a.sheet.now) a.to c.requires.2 l.rows _ l.j _ c.loop-j-test.true e t.ensures.1.0 ∙ l.invariant.2,
-      tables_next _ _ _ (sheet_given a.sheet.now) a.to c.requires.2 a.k l.rows _ _ _ l.j _ c.loop-j-test.true e t.ensures.1.0 t.ensures.0 ∙ l.invariant.3,
-      t.auto.0 ∙ l.invariant.4,
-      t.auto.1.0 ∙ l.invariant.5,
-      t.auto.1.1.0 ∙ l.invariant.6,
-      t.auto.1.1.1.0 ∙ l.invariant.7,
-      t.auto.1.1.1.1.0 ∙ l.invariant.8,
+      t.ensures.rows_after.1,
+      rows_next _ _ _ (sheet_given a.sheet.now) a.to c.requires.2 l.rows _ l.j _ c.loop-j-test.true e t.ensures.rows_after.0 ∙ l.invariant.2,
+      tables_next _ _ _ (sheet_given a.sheet.now) a.to c.requires.2 a.k l.rows _ _ _ l.j _ c.loop-j-test.true e t.ensures.rows_after.0 t.ensures.result_after ∙ l.invariant.3,
+      t.auto.rows ∙ l.invariant.4,
+      t.auto.sets ∙ l.invariant.5,
+      t.auto.entries ∙ l.invariant.6,
+      t.auto.smallest ∙ l.invariant.7,
+      t.auto.unions ∙ l.invariant.8,
     )
 
 pub shape_of-rows : goal.shape_of-rows

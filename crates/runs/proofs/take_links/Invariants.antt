@@ -1,13 +1,9 @@
-use mathlib.Core.Path.{◌≡◌, refl, ap, ◌∙◌}
-use native.Mathlib.Omega.{arith}
+use mathlib.Core.Path.{◌≡◌}
 use Prim.Native.Nat.{◌≤◌, ◌-◌}
 use lib.ListN.{length, take, drop}
-use Rattle.percolation.specs.Links.{Link}
 use Rattle.slots.specs.Tables.{tables, room}
 use Rattle.sheet.specs.Sheet.{links_of}
 use Rattle.runs.specs.Model.{rows_with, took_links}
-use Rattle.runs.proofs.InSheet.{sheet_given, link_ends}
-use Rattle.runs.proofs.LinkList.{rows_next, rows_end, tables_next, tables_end}
 use Rattle.runs.proofs.take_links.Given as goal
 
 abbrev pub invariant-loop-j : goal.invariant-loop-j
