@@ -1,12 +1,12 @@
 -- What a network of the right shape is, and a sheet written in three pieces: head, names, links. Assumes nothing.
-use mathlib.Core.Path.{◌≡◌, sym, ap, ap₂, ◌∙◌}
+use mathlib.Core.Path.{◌≡◌, sym, ap, ◌∙◌}
 use mathlib.Core.Bool.{true, ◌&&◌}
-use mathlib.Core.List.{[], List, ◌++◌, append_assoc, append-nil}
+use mathlib.Core.List.{List, ◌++◌, append_assoc, append-nil}
 use Prim.Native.Nat.{ℕ, ◌+◌, ◌-◌, ◌%◌, ◌≤◌}
 use native.Mathlib.Omega.{arith}
 use lib.Dec.{eqb}
-use lib.ListN.{length, take, drop, length-append, length-take, length-drop, drop_of_length-le}
-use lib.Seq.{take-length, take_at, drop_at, drop-drop, take_all}
+use lib.ListN.{length, take, drop, length-append, length-drop, drop_of_length-le}
+use lib.Seq.{take_at, drop_at, drop-drop, take_all}
 use borrow.Author.Tests.{eqb-true}
 use Rattle.sets.proofs.Tests.{and_left, and_right}
 use Rattle.percolation.specs.Ranges.{narrow_count}
@@ -57,16 +57,14 @@ mid h cl i k = take i h ++ (cl ++ drop (i + k - i) (drop i h))
 
 pub sheet_put : (d hd ns ls h cl pl : List ℕ) (i k m : ℕ) → length hd ≡ i → length ns ≡ k → length ls ≡ m → i + k + m ≤ length d
     → h ≡ hd ++ drop i d
-    → cl ≡ take (length ns) ns ++ drop (length ns) (take (i + k - i) (drop i h))
+    → cl ≡ ns
     → pl ≡ ls ++ drop m (take (length (mid h cl i k) - (i + k)) (drop (i + k) (mid h cl i k)))
     → take (i + k) (mid h cl i k) ++ (pl ++ drop (length (mid h cl i k) - (i + k)) (drop (i + k) (mid h cl i k))) ≡ (hd ++ ns ++ ls) ++ drop (i + k + m) d
 sheet_put d hd ns ls h cl pl i k m lh ln ll fits eh ecl epl =
     let x : List ℕ = mid h cl i k in
     let back : drop (i + k - i) (drop i h) ≡ drop (i + k) h = drop-drop (i + k - i) i h ∙ ap (λ (n : ℕ). drop n h) (let e : i + (i + k - i) ≡ i + k = omega arith in e) in
-    let gone : drop (length ns) (take (i + k - i) (drop i h)) ≡ [] = drop_of_length-le (take (i + k - i) (drop i h)) (let b : length (take (i + k - i) (drop i h)) ≤ length ns = omega (arith, length-take (i + k - i) (drop i h)) in b) in
-    let whole : cl ≡ ns = ecl ∙ ap₂ (λ (a b : List ℕ). a ++ b) (take-length ns) gone ∙ append-nil ns in
     let rest : length (drop (i + k) x) ≤ length x - (i + k) = omega (arith, length-drop (i + k) x) in
-    three d hd ns ls h x _ cl pl (take (length x - (i + k)) (drop (i + k) x)) i k m lh ln ll fits eh whole
+    three d hd ns ls h x _ cl pl (take (length x - (i + k)) (drop (i + k) x)) i k m lh ln ll fits eh ecl
     (ap (λ (t : List ℕ). take i h ++ (cl ++ t)) back)
     (take_all (length x - (i + k)) (drop (i + k) x) rest)
     epl

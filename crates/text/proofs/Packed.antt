@@ -255,10 +255,10 @@ module _ (text names names2 : List ℕ) (t t2 : LinkLists) (r : Text) (p m : ℕ
   left_network =
       let P = parts_of text in
       let L = sort_links (text_links text) in
-      let e = meets.links-left told.0 in
+      let e = meets.links_left told.0 in
       let h : m ≡ length L = told.2 ∙ sym (sort_length (text_links text)) in
       ap₂ (λ (a b : List ℕ). network a b (take m t2.higher) (take m t2.weights))
-      (ap (take (8 * p)) (meets.names-left told.0) ∙ take_at (name_bytes P) (drop (8 * length P) names) (8 * p) (omega (arith, bytes_length P, told.1)))
+      (ap (take (8 * p)) (meets.names_left told.0) ∙ take_at (name_bytes P) (drop (8 * length P) names) (8 * p) (omega (arith, bytes_length P, told.1)))
       (front t2.lower t.lower L (λ l. l.low) m (ap (λ (u : LinkLists). u.lower) e) h)
       ∙ ap₂ (λ (a b : List ℕ). network (name_bytes P) (map (λ l. l.low) L) a b)
       (front t2.higher t.higher L (λ l. l.high) m (ap (λ (u : LinkLists). u.higher) e) h)

@@ -3,9 +3,7 @@ use mathlib.Core.List.{List}
 use Prim.Native.Nat.{ℕ, ◌+◌, ◌*◌, ◌/◌}
 use lib.ListN.{length}
 use native.Mathlib.Omega.{arith}
-use borrow.Author.Rules.{rules}
 use Rattle.answers.proofs.Laws.{stop, go, then_stop, then_go}
-use borrow.Author.Tests.{not-true, not-false}
 use Rattle.sheet.specs.Network.{network}
 use Rattle.sheet_writer.specs.Writing.{parts_of, eight_in, check_network}
 use Rattle.answers.specs.Model.{verdict}
@@ -37,7 +35,7 @@ unfolding check_network
 returns-in-Stop c =
     let a = c.args in
     sym (go _ _ _ _ (sym c.has_shape.ensures ∙ c.if-not-has_shape.false) ∙ go _ _ _ _ (sym c.narrow_count.ensures ∙ c.if-not-narrow_count.false)
-    ∙ then_stop _ _ _ _ (sym (named a.names.now a.lower.now a.higher.now a.weights.now) ∙ sym c.test.ensures ∙ ap verdict c.n-1.given.1))
+    ∙ then_stop _ _ _ _ (sym (named a.names.now a.lower.now a.higher.now a.weights.now) ∙ sym c.test.ensures ∙ ap verdict c.in-Stop.is))
 
 pub network_links-requires : goal.network_links-requires
 network_links-requires c =
@@ -49,5 +47,5 @@ unfolding check_network
 returns c =
     let a = c.args in
     sym (go _ _ _ _ (sym c.has_shape.ensures ∙ c.if-not-has_shape.false) ∙ go _ _ _ _ (sym c.narrow_count.ensures ∙ c.if-not-narrow_count.false)
-    ∙ then_go _ _ (sym (named a.names.now a.lower.now a.higher.now a.weights.now) ∙ sym c.test.ensures ∙ ap verdict c.enum_told-1.given.1)
+    ∙ then_go _ _ (sym (named a.names.now a.lower.now a.higher.now a.weights.now) ∙ sym c.test.ensures ∙ ap verdict c.in_default.is)
     ∙ sym c.network_links.ensures)

@@ -1,12 +1,11 @@
 use mathlib.Core.Path.{◌≡◌, sym, ap, ap₂, ◌∙◌, subst⁻¹}
 use native.Mathlib.Omega.{arith}
-use borrow.Author.Rules.{rules}
 use mathlib.Core.List.{List}
-use Prim.Native.Nat.{ℕ, ◌+◌, ◌≤◌, ◌-◌}
+use Prim.Native.Nat.{ℕ, ◌+◌, ◌≤◌}
 use lib.ListN.{length}
 use Rattle.sets.proofs.Tables.{length_none}
 use Rattle.answers.specs.Verdict.{in_order}
-use Rattle.sets.specs.Value.{width, no_rows}
+use Rattle.sets.specs.Value.{width}
 use Rattle.percolation.specs.Links.{link}
 use Rattle.sheet.specs.Network.{network}
 use Rattle.sheet_writer.specs.Writing.{parts_of, link_in, check_link_in}
@@ -64,7 +63,7 @@ loop-j-preserved c =
       omega arith,
       subst⁻¹ (λ (R : List ℕ). Passed (link_in n) (λ i. 0) (parts_of n) (l.j + 1) R c.wide-weight.result) c.add_link.ensures
           (passed_more (link_in n) (λ i. 0) (parts_of n) l.j l.seen l.before fits l.invariant.1 x same small r.result r.ensures c.if-number-ne0.false),
-      c.add_link.auto.0 ∙ l.invariant.2,
+      c.add_link.auto.rows ∙ l.invariant.2,
     )
 
 pub returns : goal.returns

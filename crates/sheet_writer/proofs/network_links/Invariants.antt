@@ -1,16 +1,10 @@
-use mathlib.Core.Path.{◌≡◌, sym, ap, ap₂, ◌∙◌, subst⁻¹}
-use native.Mathlib.Omega.{arith}
-use borrow.Author.Rules.{rules}
-use mathlib.Core.List.{List}
-use Prim.Native.Nat.{ℕ, ◌+◌, ◌≤◌, ◌-◌}
+use mathlib.Core.Path.{◌≡◌}
+use Prim.Native.Nat.{◌≤◌, ◌-◌}
 use lib.ListN.{length}
-use Rattle.sets.proofs.Tables.{length_none}
-use Rattle.answers.specs.Verdict.{in_order}
-use Rattle.sets.specs.Value.{width, no_rows}
-use Rattle.percolation.specs.Links.{link}
+use Rattle.sets.specs.Value.{no_rows}
 use Rattle.sheet.specs.Network.{network}
-use Rattle.sheet_writer.specs.Writing.{parts_of, link_in, check_link_in}
-use Rattle.sheet.proofs.InTurn.{Passed, passed_none, passed_stop, passed_more}
+use Rattle.sheet_writer.specs.Writing.{parts_of, link_in}
+use Rattle.sheet.proofs.InTurn.{Passed}
 use Rattle.sheet_writer.proofs.network_links.Given as goal
 
 abbrev pub invariant-loop-j : goal.invariant-loop-j

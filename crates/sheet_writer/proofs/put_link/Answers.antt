@@ -1,24 +1,11 @@
-use borrow.Author.Rules.{rules}
 use mathlib.Core.Path.{◌≡◌, sym, ap, ap₂, ◌∙◌}
 use native.Mathlib.Omega.{arith}
 use Prim.Native.Nat.{ℕ, suc, ◌+◌, ◌%◌}
-use lib.ListN.{length, set, length-set}
+use lib.ListN.{set}
 use lib.Seq.{sets}
 use Rattle.sets.specs.Value.{bytes}
 use Rattle.sheet_writer.proofs.Written.{link_put}
 use Rattle.sheet_writer.proofs.put_link.Goals as goal
-
-pub bounds-out-k-2 : goal.bounds-out-k-2
-bounds-out-k-2 c = simp length-set (omega arith)
-
-pub put_two-requires : goal.put_two-requires
-put_two-requires c = simp length-set (omega arith)
-
-pub shape_of-out : goal.shape_of-out
-shape_of-out c =
-    let a = c.args in
-    let l : length c.put_two.new.0 ≡ length (set (set a.out.now a.k (a.low % 256)) (a.k + 1) (a.high % 256)) = c.put_two.auto.0 in
-    l ∙ simp length-set
 
 pub returns : goal.returns
 returns c =

@@ -1,8 +1,7 @@
 use mathlib.Core.Path.{◌≡◌, refl, ap, ap₂, ◌∙◌}
 use native.Mathlib.Omega.{arith}
-use borrow.Author.Rules.{rules}
 use mathlib.Core.List.{[], ◌++◌}
-use Prim.Native.Nat.{ℕ, ◌*◌, ◌≤◌, ◌-◌}
+use Prim.Native.Nat.{ℕ, ◌*◌}
 use lib.ListN.{length, drop}
 use lib.Seq.{sets}
 use Rattle.percolation.specs.Links.{Link, link}
@@ -26,7 +25,7 @@ loop-j-preserved c =
       omega arith,
       l.invariant.1,
       stored_more (link_in n) l.j a.out.now l.out _ (omega arith) l.invariant.2 (f.ensures ∙ ap (λ (x : Link). sets l.out (4 * l.j) (link_bytes x)) same),
-      f.auto.0 ∙ l.invariant.3,
+      f.auto.out ∙ l.invariant.3,
     )
 
 pub shape_of-out : goal.shape_of-out

@@ -1,14 +1,10 @@
-use mathlib.Core.Path.{◌≡◌, refl, ap, ap₂, ◌∙◌}
-use native.Mathlib.Omega.{arith}
-use borrow.Author.Rules.{rules}
+use mathlib.Core.Path.{◌≡◌}
 use mathlib.Core.List.{[], ◌++◌}
-use Prim.Native.Nat.{ℕ, ◌*◌, ◌≤◌, ◌-◌}
+use Prim.Native.Nat.{◌*◌, ◌≤◌, ◌-◌}
 use lib.ListN.{length, drop}
-use lib.Seq.{sets}
-use Rattle.percolation.specs.Links.{Link, link}
 use Rattle.sheet.specs.Network.{network}
-use Rattle.sheet_writer.specs.Writing.{link_in, link_bytes}
-use Rattle.sheet_writer.proofs.Written.{links_bytes, stored_none, stored_more}
+use Rattle.sheet_writer.specs.Writing.{link_in}
+use Rattle.sheet_writer.proofs.Written.{links_bytes}
 use Rattle.sheet_writer.proofs.put_links.Given as goal
 
 abbrev pub invariant-loop-j : goal.invariant-loop-j

@@ -1,6 +1,5 @@
 use Rattle.text.proofs.Weights.{digit_low, digit_high, digit_mid}
 use native.Mathlib.Omega.{arith}
-use borrow.Author.Rules.{rules}
 use Rattle.text.proofs.digit.Goals as goal
 
 pub returns-then-b-lt48 : goal.returns-then-b-lt48

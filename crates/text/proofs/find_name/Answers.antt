@@ -1,9 +1,8 @@
 use Rattle.text.proofs.Bytes.{part_take}
 use lib.ListN.{take, drop}
-use Prim.Native.Nat.{◌*◌, ◌+◌, ◌≤◌, ◌-◌}
-use Rattle.text.proofs.Names.{Looked, looked_none, looked_here, looked_past, looked_end}
+use Prim.Native.Nat.{◌*◌, ◌+◌, ◌-◌}
+use Rattle.text.proofs.Names.{looked_none, looked_here, looked_past, looked_end}
 use native.Mathlib.Omega.{arith}
-use borrow.Author.Rules.{rules}
 use Rattle.text.proofs.find_name.Goals as goal
 
 pub loop-q-init : goal.loop-q-init

@@ -1,9 +1,5 @@
-use Rattle.text.proofs.Bytes.{part_take}
-use lib.ListN.{take, drop}
-use Prim.Native.Nat.{◌*◌, ◌+◌, ◌≤◌, ◌-◌}
-use Rattle.text.proofs.Names.{Looked, looked_none, looked_here, looked_past, looked_end}
-use native.Mathlib.Omega.{arith}
-use borrow.Author.Rules.{rules}
+use Prim.Native.Nat.{◌≤◌, ◌-◌}
+use Rattle.text.proofs.Names.{Looked}
 use Rattle.text.proofs.find_name.Given as goal
 
 abbrev pub invariant-loop-q : goal.invariant-loop-q

@@ -1,13 +1,7 @@
-use Rattle.text.proofs.Names.{padded_length, padded_at}
-use Rattle.text.proofs.Bytes.{same_step, same_end}
 use Rattle.text.specs.Reading.{padded}
 use Rattle.sets.specs.Lists.{same}
-use Rattle.sets.proofs.Tests.{and_stop, and_go}
-use borrow.Author.Tests.{lt-leb, le-leb, ne_eqb, eq-eqb}
 use lib.ListN.{drop, length}
-use native.Mathlib.Omega.{arith}
-use mathlib.Core.Path.{◌≡◌, refl, sym, ◌∙◌}
-use borrow.Author.Rules.{rules}
+use mathlib.Core.Path.{◌≡◌}
 use Prim.Native.Nat.{◌≤◌, ◌-◌}
 use Rattle.text.proofs.holds_name.Given as goal
 

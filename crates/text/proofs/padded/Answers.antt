@@ -1,6 +1,5 @@
 use mathlib.Core.Path.{sym}
 use lib.ListN.{get_or-eq_default}
-use borrow.Author.Rules.{rules}
 use Rattle.sets.proofs.ListLaws.{get_d_in}
 use Rattle.text.proofs.padded.Goals as goal
 

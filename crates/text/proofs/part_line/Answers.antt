@@ -1,16 +1,15 @@
 use Rattle.text.proofs.PartLaws.{form_said, line_101, line_part, line_silent, line_link}
 use mathlib.Core.Path.{refl}
-use borrow.Author.Rules.{rules}
 use Rattle.text.proofs.part_line.Goals as goal
 
 pub returns-in-Neither : goal.returns-in-Neither
-returns-in-Neither c = λ N h l. line_101 N _ _ _ _ (form_said _ _ _ c.enum_told-1.given.1 c.form_of.ensures)
+returns-in-Neither c = λ N h l. line_101 N _ _ _ _ (form_said _ _ _ c.in-Neither.is c.form_of.ensures)
 
 pub returns-in-Part : goal.returns-in-Part
-returns-in-Part c = λ N h l. line_part N _ _ _ _ _ _ _ (form_said _ _ _ c.enum_told-in-Part-1.given.1 c.form_of.ensures) c.word.ensures.result_value (c.put_part.ensures N h l)
+returns-in-Part c = λ N h l. line_part N _ _ _ _ _ _ _ (form_said _ _ _ c.in-Part.is c.form_of.ensures) c.word.ensures.result_value (c.put_part.ensures N h l)
 
 pub returns-in-Silent : goal.returns-in-Silent
-returns-in-Silent c = λ N h l. line_silent N _ _ _ _ _ (form_said _ _ _ c.enum_told-in-Silent-1.given.1 c.form_of.ensures) h l refl
+returns-in-Silent c = λ N h l. line_silent N _ _ _ _ _ (form_said _ _ _ c.in-Silent.is c.form_of.ensures) h l refl
 
 pub returns-in-Link : goal.returns-in-Link
-returns-in-Link c = λ N h l. line_link N _ _ _ _ _ _ _ _ (form_said _ _ _ c.enum_told-in-Link-1.given.1 c.form_of.ensures) h l refl
+returns-in-Link c = λ N h l. line_link N _ _ _ _ _ _ _ _ (form_said _ _ _ c.in-Link.is c.form_of.ensures) h l refl

@@ -1,11 +1,7 @@
 use Rattle.text.proofs.Names.{slot_none, slot_more, slot_end}
-use Rattle.text.specs.Reading.{padded}
-use lib.ListN.{drop, set, length-set, length}
-use mathlib.Core.List.{◌++◌}
+use lib.ListN.{set, length-set, length}
 use mathlib.Core.Path.{◌≡◌, refl, ap, ◌∙◌}
 use native.Mathlib.Omega.{arith}
-use borrow.Author.Rules.{rules}
-use Prim.Native.Nat.{◌≤◌, ◌-◌}
 use Rattle.text.proofs.put_name.Goals as goal
 
 pub loop-i-init : goal.loop-i-init

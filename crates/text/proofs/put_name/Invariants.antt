@@ -1,10 +1,7 @@
-use Rattle.text.proofs.Names.{slot_none, slot_more, slot_end}
 use Rattle.text.specs.Reading.{padded}
-use lib.ListN.{drop, set, length-set, length}
+use lib.ListN.{drop, length}
 use mathlib.Core.List.{◌++◌}
-use mathlib.Core.Path.{◌≡◌, refl, ap, ◌∙◌}
-use native.Mathlib.Omega.{arith}
-use borrow.Author.Rules.{rules}
+use mathlib.Core.Path.{◌≡◌}
 use Prim.Native.Nat.{◌≤◌, ◌-◌}
 use Rattle.text.proofs.put_name.Given as goal
 

@@ -1,12 +1,10 @@
 use lib.ListN.{length, length-append}
 use Rattle.text.proofs.PartLaws.{name_unblank, number_given, number_fresh, part_5, part_4, part_102, part_16, part_fine, part_refused, part_taken, slot_written}
 use Rattle.percolation.specs.Ranges.{narrow_count}
-use borrow.Author.Tests.{not-true, not-false}
 use native.Mathlib.Omega.{arith}
 use mathlib.Core.List.{[], ◌∷◌}
 use Prim.Native.Nat.{suc, ◌+◌, ◌*◌, ◌-◌}
 use mathlib.Core.Path.{◌≡◌, sym, ap, ◌∙◌}
-use borrow.Author.Rules.{rules}
 use Rattle.text.proofs.put_part.Goals as goal
 
 pub returns-then-not-is_name : goal.returns-then-not-is_name

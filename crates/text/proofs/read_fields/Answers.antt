@@ -1,5 +1,4 @@
 use Rattle.text.proofs.LinkLaws.{word_number, word_weight, fields_first, fields_second, fields_6, fields_104, fields_7, fields_rising, fields_falling}
-use borrow.Author.Rules.{rules}
 use Rattle.text.proofs.read_fields.Goals as goal
 
 pub returns-then-p-a : goal.returns-then-p-a

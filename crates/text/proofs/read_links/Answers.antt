@@ -1,15 +1,10 @@
-use Rattle.text.proofs.Pass2.{Sizes, sizes_then, LinksSoFar, links_none, links_stop, links_more, links_refused, links_fine}
-use Rattle.text.specs.Model.{Held}
+use Rattle.text.proofs.Pass2.{sizes_then, links_none, links_stop, links_more, links_refused, links_fine}
 use Rattle.words.proofs.Pieces.{line_end_fits}
 use Rattle.link_order.specs.Order.{link_lists}
 use lib.ListN.{length}
 use lib.Dec.{eqb}
 use native.Mathlib.Omega.{arith}
-use Prim.Native.Nat.{ℕ, ◌-◌}
-use borrow.Author.Rules.{rules}
-use mathlib.Core.List.{List}
-use mathlib.Core.Path.{◌≡◌, refl, sym, ap, ◌∙◌}
-use Rattle.sets.specs.Value.{no_rows}
+use mathlib.Core.Path.{refl, sym, ap, ◌∙◌}
 use Rattle.sets.proofs.Tables.{length_none}
 use Rattle.text.proofs.read_links.Goals as goal
 
@@ -22,10 +17,13 @@ slice_bounds-link_line-end-in-loop-at c = sym (c.loop-at.invariant.0 ∙ length_
 pub link_line-requires : goal.link_line-requires
 link_line-requires c = c.requires
 
+pub slice_bounds-link_line-end : goal.slice_bounds-link_line-end
+slice_bounds-link_line-end c = omega (arith, c.line_end-end.ensures, line_end_fits (eqb 10) c.args.text.now c.loop-at.at (omega arith))
+
 pub returns-in-Fault : goal.returns-in-Fault
 returns-in-Fault c = λ N h l. let s = c.loop-at in
     let f = s.invariant.2 N h l in
-    links_refused _ N _ _ _ _ (links_stop c.args.text.now N _ (link_lists s.lower s.higher s.weights) _ s.seen _ s.m s.at c.line_end-end.result c.link_line.result f s.invariant.1 c.loop-at-test.true c.line_end-end.ensures (c.link_line.ensures N f.L h l f.near f.count) _ _ c.n-1.given.1)
+    links_refused _ N _ _ _ _ (links_stop c.args.text.now N _ (link_lists s.lower s.higher s.weights) _ s.seen _ s.m s.at c.line_end-end.result c.link_line.result f s.invariant.1 c.loop-at-test.true c.line_end-end.ensures (c.link_line.ensures N f.L h l f.near f.count) _ _ c.in-Fault.is)
 
 pub overflow_add-at : goal.overflow_add-at
 overflow_add-at c = omega (arith, line_end_fits (eqb 10) c.args.text.now c.loop-at.at (omega arith))
@@ -33,9 +31,9 @@ overflow_add-at c = omega (arith, line_end_fits (eqb 10) c.args.text.now c.loop-
 pub loop-at-preserved : goal.loop-at-preserved
 loop-at-preserved c = let s = c.loop-at in
     let k = c.link_line.auto in (
-      k.1.1.1.1.0 ∙ s.invariant.0,
-      sizes_then _ _ _ (record { lower = k.1.1.1.1.1.0; higher = k.1.1.1.1.1.1.0; weights = k.1.1.1.1.1.1.1.0 }) s.invariant.1,
-      λ N h l. let f = s.invariant.2 N h l in links_more c.args.text.now N _ (link_lists s.lower s.higher s.weights) _ s.seen _ s.m s.at c.line_end-end.result c.link_line.result f s.invariant.1 c.loop-at-test.true c.line_end-end.ensures (c.link_line.ensures N f.L h l f.near f.count) _ c.n-in-Count-1.given.1,
+      k.seen ∙ s.invariant.0,
+      sizes_then _ _ _ (record { lower = k.lower; higher = k.higher; weights = k.weights }) s.invariant.1,
+      λ N h l. let f = s.invariant.2 N h l in links_more c.args.text.now N _ (link_lists s.lower s.higher s.weights) _ s.seen _ s.m s.at c.line_end-end.result c.link_line.result f s.invariant.1 c.loop-at-test.true c.line_end-end.ensures (c.link_line.ensures N f.L h l f.near f.count) _ c.in-Count.is,
     )
 
 pub shape_of-lower : goal.shape_of-lower

@@ -1,16 +1,11 @@
-use Rattle.text.proofs.Pass2.{Sizes, sizes_then, LinksSoFar, links_none, links_stop, links_more, links_refused, links_fine}
+use Rattle.text.proofs.Pass2.{Sizes, LinksSoFar}
 use Rattle.text.specs.Model.{Held}
-use Rattle.words.proofs.Pieces.{line_end_fits}
 use Rattle.link_order.specs.Order.{link_lists}
 use lib.ListN.{length}
-use lib.Dec.{eqb}
-use native.Mathlib.Omega.{arith}
 use Prim.Native.Nat.{ℕ, ◌-◌}
-use borrow.Author.Rules.{rules}
 use mathlib.Core.List.{List}
-use mathlib.Core.Path.{◌≡◌, refl, sym, ap, ◌∙◌}
+use mathlib.Core.Path.{◌≡◌}
 use Rattle.sets.specs.Value.{no_rows}
-use Rattle.sets.proofs.Tables.{length_none}
 use Rattle.text.proofs.read_links.Given as goal
 
 abbrev pub invariant-loop-at : goal.invariant-loop-at

@@ -1,10 +1,6 @@
-use Rattle.text.proofs.Pass1.{PartsSoFar, parts_none, parts_held, parts_stop, parts_more, parts_refused, parts_empty, parts_fine}
-use Rattle.words.proofs.Pieces.{line_end_fits}
+use Rattle.text.proofs.Pass1.{PartsSoFar}
 use lib.ListN.{length}
-use lib.Dec.{eqb}
-use native.Mathlib.Omega.{arith}
 use Prim.Native.Nat.{◌-◌}
-use borrow.Author.Rules.{rules}
 use Rattle.text.proofs.read_parts.Given as goal
 
 abbrev pub invariant-loop-at : goal.invariant-loop-at

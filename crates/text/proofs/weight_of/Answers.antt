@@ -1,11 +1,8 @@
-use lib.ListN.{get_or, drop, length}
-use Prim.Native.Nat.{◌≤◌, ◌-◌, ◌*◌, ◌+◌}
+use lib.ListN.{get_or, drop}
+use Prim.Native.Nat.{◌-◌, ◌*◌, ◌+◌}
 use Rattle.text.proofs.Weights.{weight_from, digit_not, digit_is, weight_none, weight_big, weight_bad, weight_more, weight_end}
-use Rattle.text.specs.Reading.{value, is_weight}
 use native.Mathlib.Omega.{arith}
-use mathlib.Core.Bool.{cond}
-use mathlib.Core.Path.{◌≡◌, sym, ap, ◌∙◌}
-use borrow.Author.Rules.{rules}
+use mathlib.Core.Path.{sym, ap, ◌∙◌}
 use Rattle.text.proofs.weight_of.Goals as goal
 
 pub loop-i-init : goal.loop-i-init

@@ -1,11 +1,9 @@
-use lib.ListN.{get_or, drop, length}
-use Prim.Native.Nat.{◌≤◌, ◌-◌, ◌*◌, ◌+◌}
-use Rattle.text.proofs.Weights.{weight_from, digit_not, digit_is, weight_none, weight_big, weight_bad, weight_more, weight_end}
+use lib.ListN.{drop, length}
+use Prim.Native.Nat.{◌≤◌, ◌-◌}
+use Rattle.text.proofs.Weights.{weight_from}
 use Rattle.text.specs.Reading.{value, is_weight}
-use native.Mathlib.Omega.{arith}
 use mathlib.Core.Bool.{cond}
-use mathlib.Core.Path.{◌≡◌, sym, ap, ◌∙◌}
-use borrow.Author.Rules.{rules}
+use mathlib.Core.Path.{◌≡◌}
 use Rattle.text.proofs.weight_of.Given as goal
 
 abbrev pub invariant-loop-i : goal.invariant-loop-i
