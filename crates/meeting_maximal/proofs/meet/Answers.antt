@@ -17,4 +17,4 @@ returns-in-Faulty c = meet_stopped _ _ _ _ _ _ _ _ c.admit.ensures _ _ c.in-Faul
 pub returns-in-Fine : goal.returns-in-Fine
 returns-in-Fine c =
     let ran = c.over_levels-met in
-    meet_ran _ _ _ _ _ _ _ _ c.admit.ensures _ _ c.in-Fine.is _ _ ran.ensures c.clear.ensures ran.auto.1.1.1.1.1.1.0 refl refl refl
+    meet_ran _ _ _ _ _ _ _ _ c.admit.ensures _ _ c.in-Fine.is _ _ ran.ensures c.clear.ensures ran.auto.sets refl refl refl

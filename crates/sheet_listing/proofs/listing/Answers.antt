@@ -21,6 +21,6 @@ returns-in-Fine c =
     let a = c.args in
     let h = c.heavy-n in
     let r = c.run-answer in
-    let k = r.auto.1.1.1.1.1 in
+    let k = r.auto in
     call_ran _ _ _ _ _ a.out.now _ _ _ c.admit.ensures _ _ c.in-Fine.is _ _ _ (r.ensures a.t h.ensures.0)
-    c.clear.ensures k.0 k.1.0 k.1.1.0 k.1.1.1.0
+    c.clear.ensures k.sets k.entries k.smallest k.unions
