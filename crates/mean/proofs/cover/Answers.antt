@@ -20,7 +20,7 @@ pub loop-i-preserved-then-root-r : goal.loop-i-preserved-then-root-r
 loop-i-preserved-then-root-r c =
     let l = c.loop-i in (
       omega arith,
-      c.gain.auto.0 ∙ l.invariant.1,
+      c.gain.auto.covered ∙ l.invariant.1,
       covered_yes _ _ _ _ _ l.invariant.2 (eq-eqb _ _ (sym c.root.ensures.0 ∙ c.if-root-r.true)) _ c.at-s.ensures _ c.gain.ensures,
     )
 

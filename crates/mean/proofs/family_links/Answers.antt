@@ -15,13 +15,13 @@ pub count_links-requires : goal.count_links-requires
 count_links-requires c = let q = c.requires in (call_sheet _ _ _ q.0, q.1)
 
 pub shape_of-sets : goal.shape_of-sets
-shape_of-sets c = c.take_links-used.auto.1.1.0 ∙ c.clear.auto.0
+shape_of-sets c = c.take_links-used.auto.sets ∙ c.clear.auto.sets
 
 pub shape_of-entries : goal.shape_of-entries
-shape_of-entries c = c.take_links-used.auto.1.1.1.0 ∙ c.clear.auto.1.0
+shape_of-entries c = c.take_links-used.auto.entries ∙ c.clear.auto.entries
 
 pub shape_of-smallest : goal.shape_of-smallest
-shape_of-smallest c = c.take_links-used.auto.1.1.1.1.0 ∙ c.clear.auto.1.1.0
+shape_of-smallest c = c.take_links-used.auto.smallest ∙ c.clear.auto.smallest
 
 pub returns : goal.returns
 returns c =

@@ -33,7 +33,7 @@ take_level-found-requires c =
     (a.requires.0, a.requires.1, omega (arith, c.heavy-end.ensures.1, a.requires.2), omega (arith, r, e.1), omega (arith, r, e.0, a.requires.4, rows_length l.loop-n.sets a.args.sets.now l.loop-n.invariant.1))
 
 pub shape_of-sets-then-room-found : goal.shape_of-sets-then-room-found
-shape_of-sets-then-room-found c = let t = c in t.take_level-found.auto.1.1.1.1.0 ∙ t.loop-n.invariant.1
+shape_of-sets-then-room-found c = let t = c in t.take_level-found.auto.sets ∙ t.loop-n.invariant.1
 
 pub returns-then-room-found : goal.returns-then-room-found
 returns-then-room-found c =
@@ -61,7 +61,7 @@ loop-n-preserved c =
     let l = k in
     let a = l in (
       h.heavy-end.ensures.1,
-      f.first_met-met.auto.0 ∙ t.take_level-found.auto.1.1.1.1.0 ∙ l.loop-n.invariant.1,
+      f.first_met-met.auto.table ∙ t.take_level-found.auto.sets ∙ l.loop-n.invariant.1,
       level_next _ a.requires.0 l.loop-n.n _ (omega (arith, k.loop-n-test.true, a.requires.2)) (ap (λ (x : Link). x.weight) k.link-l.ensures.0) h.heavy-end.result (omega (arith, h.heavy-end.ensures.1, a.requires.2)) h.heavy-end.ensures.0 _ _ _ l.room-room.ensures _ _ t.take_level-found.ensures f.if-room-found.false _ _ (omega (arith, a.requires.3)) a.requires.5 a.requires.6 _ _ f.first_met-met.ensures l.loop-n.invariant.2,
     )
 

@@ -30,12 +30,12 @@ loop-filled-smaller c = let t = (c.loop-filled.invariant.0 _ _ (turn_begin _ c.r
 
 pub loop-filled-preserved : goal.loop-filled-preserved
 loop-filled-preserved c =
-    let k = c.take_links-used.auto.1 in
+    let k = c.take_links-used.auto in
     let l = c.loop-filled.invariant in (
       λ a b begun. let t = l.0 a b begun in turn_more _ c.requires.0 _ c.requires.2 _ _ _ _ _ _ _ t _ _ c.root.ensures.0 c.root-in-loop-filled.ensures.0 c.if-root.false (omega (arith, t.taken.within, c.if-n-m.false, c.requires.1)) _ _ c.take_links-used.ensures.rows_after.0 c.take_links-used.ensures.result_after,
-      k.0 ∙ l.1,
-      k.1.0 ∙ l.2,
-      k.1.1.0 ∙ l.3,
-      k.1.1.1.0 ∙ l.4,
-      k.1.1.1.1.0 ∙ l.5,
+      k.rows ∙ l.1,
+      k.sets ∙ l.2,
+      k.entries ∙ l.3,
+      k.smallest ∙ l.4,
+      k.unions ∙ l.5,
     )

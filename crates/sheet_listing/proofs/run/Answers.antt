@@ -12,10 +12,10 @@ list-requires-in-Maximal c = let q = c.requires in run_room _ _ _ q.0 _ _ q.1 c.
 pub returns-in-Sequential : goal.returns-in-Sequential
 returns-in-Sequential c =
     let a = c.args in
-    λ t first. by_sequential _ _ _ c.requires.0 a.n t first a.out.now _ _ a.method c.enum_told-1.given.1 c.list.ensures
+    λ t first. by_sequential _ _ _ c.requires.0 a.n t first a.out.now _ _ a.method c.in-Sequential.is c.list.ensures
 
 pub returns-in-Maximal : goal.returns-in-Maximal
 returns-in-Maximal c =
     let a = c.args in
     let q = c.requires in
-    λ t first. by_maximal _ _ _ q.0 a.n t first a.out.now _ _ a.method c.enum_told-in-Maximal-1.given.1 _ _ _ c.rows_of-rows.ensures q.1 c.room-room.ensures c.list-in-Maximal.ensures
+    λ t first. by_maximal _ _ _ q.0 a.n t first a.out.now _ _ a.method c.in-Maximal.is _ _ _ c.rows_of-rows.ensures q.1 c.room-room.ensures c.list-in-Maximal.ensures
