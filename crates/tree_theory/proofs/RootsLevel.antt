@@ -267,8 +267,10 @@ module _ (L : List Link) (p k v : ℕ) (P : List Branch) (U : Tables) (A : List 
       there = s.there;
       back = s.back;
     }) a.starts);
-    branches = rw kept (ap₂ (λ (i : ℕ) (Z : List Branch). branch_at (row U.smallest r) i ∷ Z) (sym (number_here n r (begun_of_lem R) yet))
-        (a.branches ∙ map_on _ _ R (λ q m. ap (branch_at (row U.smallest q)) (sym (number_past n r q (begun_of_lem R) (λ e. new (Memᴰ.cast (sym e) m)))))));
+    branches =
+        ap₂ (λ (i : ℕ) (Z : List Branch). branch_at (row U.smallest r) i ∷ Z) (sym (number_here n r (begun_of_lem R) yet))
+        (a.branches ∙ map_on _ _ R (λ q m. ap (branch_at (row U.smallest q)) (sym (number_past n r q (begun_of_lem R) (λ e. new (Memᴰ.cast (sym e) m))))))
+        ∙ sym (ap (λ (X : List ℕ). map (λ q. branch_at (row U.smallest q) (number_now n (map begun X) q)) (r ∷ R)) kept);
   }
     where
       yet : starting r ≡ true
@@ -283,8 +285,9 @@ module _ (L : List Link) (p k v : ℕ) (P : List Branch) (U : Tables) (A : List 
   unfolding stands_at
   goes_on n r R d l s a = record {
     starts = rw kept a.starts;
-    branches = rw kept (ap₂ (λ (i : ℕ) (Z : List Branch). branch_at (row U.smallest r) i ∷ Z)
-        (sym (rw still (only_same (ending_at U.entries A r) d s))) a.branches);
+    branches =
+        ap₂ (λ (i : ℕ) (Z : List Branch). branch_at (row U.smallest r) i ∷ Z) (sym (rw still (only_same (ending_at U.entries A r) d s))) a.branches
+        ∙ sym (ap (λ (X : List ℕ). map (λ q. branch_at (row U.smallest q) (number_now n (map begun X) q)) (r ∷ R)) kept);
   }
     where
       still : starting r ≡ false

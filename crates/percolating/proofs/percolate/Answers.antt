@@ -23,10 +23,10 @@ loop-i-preserved-then-is_strong c =
     let k = c.take_fitting-used.auto in (
       omega arith,
       c.take_fitting-used.ensures.upper_bound,
-      k.0 ∙ l.invariant.2,
-      k.1.0 ∙ l.invariant.3,
-      k.1.1.0 ∙ l.invariant.4,
-      k.1.1.1.0 ∙ l.invariant.5,
+      k.sets ∙ l.invariant.2,
+      k.entries ∙ l.invariant.3,
+      k.smallest ∙ l.invariant.4,
+      k.unions ∙ l.invariant.5,
       l.invariant.6
           ∙ strong_yes _ _ _ _ l.i _ c.loop-i-test.true refl _ _ _ (sym (told_strong _ _ _ _ _ c.requires.1 l.i c.loop-i-test.true _ c.is_strong.ensures) ∙ c.if-is_strong.true) _ c.at-q.ensures c.take_fitting-used.ensures.result_after,
     )
