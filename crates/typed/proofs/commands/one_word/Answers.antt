@@ -1,6 +1,5 @@
 use mathlib.Core.Bool.{true≢false}
 use mathlib.Core.Path.{sym, ap, ◌∙◌}
-use borrow.Author.Rules.{rules}
 use Rattle.typed.specs.Commands.{word_asks}
 use Rattle.typed.proofs.Asked.{asks_unknown}
 use Rattle.typed.proofs.commands.one_word.Goals as goal

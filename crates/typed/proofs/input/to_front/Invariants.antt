@@ -1,9 +1,7 @@
-use mathlib.Core.Path.{◌≡◌, refl, ap, ◌∙◌}
-use native.Mathlib.Omega.{arith}
-use borrow.Author.Rules.{rules}
-use Prim.Native.Nat.{◌+◌, ◌≤◌, ◌-◌}
-use lib.ListN.{length, set, length-set}
-use Rattle.typed.proofs.Moved.{moved, moved_more}
+use mathlib.Core.Path.{◌≡◌}
+use Prim.Native.Nat.{◌≤◌, ◌-◌}
+use lib.ListN.{length}
+use Rattle.typed.proofs.Moved.{moved}
 use Rattle.typed.proofs.input.to_front.Given as goal
 
 abbrev pub invariant-loop-i : goal.invariant-loop-i
