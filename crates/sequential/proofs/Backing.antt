@@ -1,16 +1,15 @@
 -- What the number of a taking back says where state, tables and journal hold links, and that they hold those without the last after it. Assumes nothing.
 use mathlib.Core.Path.{◌≡◌, refl, sym, ap, ap₂, ◌∙◌, subst, subst⁻¹}
 use mathlib.Core.Logic.{◌⊎◌, inl, inr}
-use mathlib.Core.Bool.{Bool, true, false, cond, not}
+use mathlib.Core.Bool.{true, false}
 use mathlib.Core.List.Memᴰ
 use mathlib.Core.List.{List, [], ◌∷◌, ◌++◌, map}
-use Prim.Native.Nat.{ℕ, zero, suc, ◌+◌, ◌-◌, ◌≤◌, ◌<◌, min}
+use Prim.Native.Nat.{ℕ, suc, ◌-◌, ◌≤◌, ◌<◌, min}
 use native.Mathlib.Omega.{arith}
-use lib.Dec.{eqb}
 use lib.ListN.{length, get_or, set, take, length-append}
 use borrow.Author.Tests.{eqb-true}
-use Rattle.answers.specs.Verdict.{Verdict, accepted, refused}
-use Rattle.answers.specs.Answers.{counts, refuses, says, say_of}
+use Rattle.answers.specs.Verdict.{accepted, refused}
+use Rattle.answers.specs.Answers.{counts, refuses, says}
 use Rattle.answers.proofs.Laws.{say_accepted, say_refused, accepted_not}
 use Rattle.sets.specs.Lists.{◌∈◌}
 use Rattle.sets.specs.Value.{width, no_rows}
@@ -30,17 +29,17 @@ use Rattle.runs.specs.Lent.{cleared}
 use Rattle.runs.specs.Model.{rows_with, took_links}
 use Rattle.runs.proofs.Left.{cleared_entries}
 use Rattle.runs.proofs.Ran.{links_kept, run_near, run_shown}
-use Rattle.journal.specs.Journal.{journal_length, journal_entry, journal_of}
+use Rattle.journal.specs.Journal.{journal_length, journal_entry}
 use Rattle.journal.specs.Model.{entry_link, readable, makes_none, refilled}
 use Rattle.journal.proofs.Entries.{entry_link_lem, journal_less, first_entries, last_entry, entries_links, links_readable}
 use Rattle.journal.proofs.Refilled.{length_none, refill_kept, refill_made}
 use Rattle.states.specs.declared.State.{State}
-use Rattle.states.specs.Model.{journal_number, back_number}
-use Rattle.states.proofs.Checking.{first_go, back_19, back_0}
+use Rattle.states.specs.Model.{back_number}
+use Rattle.states.proofs.Checking.{back_19, back_0}
 use Rattle.sequential.specs.declared.Stepped.{Stepped}
 use Rattle.sequential.specs.Steps.{state, check_take_back, Holds, BackMeets}
 use Rattle.sequential.specs.Model.{fewer, back_links, back_tables, back_state, back_journal}
-use Rattle.sequential.proofs.Inserting.{numbered_refused, back_says, held_level, held_wide, held_few, held_journal, two, used_is, moved, count_not_refused}
+use Rattle.sequential.proofs.Inserting.{back_says, held_level, held_wide, held_few, held_journal, two, used_is, moved, count_not_refused}
 
 -- ---- 19, by the links that are held
 
@@ -79,7 +78,7 @@ module _ (p k n : ℕ) (M : List Link) (l : Link) (S : State) (T : Tables) (J : 
 
   links_are : back_links S J ≡ M
   unfolding back_links
-  links_are = ap₂ readable h.same-p taken_is ∙ links_readable p M wide lawful slim
+  links_are = ap₂ readable h.same_p taken_is ∙ links_readable p M wide lawful slim
 
   enough_room : slots p k (cliques M p k) ≤ room T.entries
   enough_room = omega (arith, slots_fewer p k M l, used_is p k n L S T J h, h.shows.fits)
@@ -108,7 +107,7 @@ module _ (p k n : ℕ) (M : List Link) (l : Link) (S : State) (T : Tables) (J : 
     unfolding makes_none
     none_new =
         length_none (new_cliques R k l.low l.high)
-        (sym (ap₂ (λ (j : ℕ) (m : Link). length (new_cliques R j m.low m.high)) h.same-k last_is) ∙ eqb-true _ 0 t)
+        (sym (ap₂ (λ (j : ℕ) (m : Link). length (new_cliques R j m.low m.high)) h.same_k last_is) ∙ eqb-true _ 0 t)
 
     kept_shown : Shows p k (cliques M p k) T
     kept_shown =
@@ -123,7 +122,7 @@ module _ (p k n : ℕ) (M : List Link) (l : Link) (S : State) (T : Tables) (J : 
     unfolding back_tables
     tables_are =
         refill_made S.p S.k R T J (fewer S) t
-        ∙ ap₂ (λ (j : ℕ) (N : List Link). took_links j no_rows (cleared T) N) h.same-k (ap₂ readable h.same-p taken_is ∙ links_readable p M wide lawful slim)
+        ∙ ap₂ (λ (j : ℕ) (N : List Link). took_links j no_rows (cleared T) N) h.same_k (ap₂ readable h.same_p taken_is ∙ links_readable p M wide lawful slim)
 
     made_shown : Shows p k (cliques M p k) (back_tables S T J)
     made_shown =
@@ -149,8 +148,8 @@ module _ (p k n : ℕ) (M : List Link) (l : Link) (S : State) (T : Tables) (J : 
   held_front = record {
     count = h.count;
     size = h.size;
-    same_p = h.same-p;
-    same_k = h.same-k;
+    same_p = h.same_p;
+    same_k = h.same_k;
     same_used = refl;
     last = ap (λ (A : List ℕ). last_weight (map entry_link A)) taken_is ∙ ap last_weight (entries_links p M wide lawful slim);
     near = near_is;

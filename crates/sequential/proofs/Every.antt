@@ -11,7 +11,7 @@ use Rattle.answers.specs.Answers.{Said, say_of}
 use Rattle.answers.proofs.Laws.{then_left, then_right, unless_passed}
 use Rattle.percolation.specs.Links.{Link, cliques}
 use Rattle.percolation.specs.Ranges.{good_count, good_k}
-use Rattle.percolation.specs.Steps.{Step, check_step, after_step, remaining_links, step_answers}
+use Rattle.percolation.specs.Steps.{Step, accept, front, check_step, after_step, remaining_links, step_answers}
 use Rattle.percolation.proofs.Ranges.{good_k_lem}
 use Rattle.percolation.proofs.Accepted.{legal_none}
 use Rattle.percolation.proofs.ChainClasses.{all_chains}
@@ -82,9 +82,9 @@ pub steps_held : (p k n : ℕ) (L : List Link) {S : State} {T : Tables} {J : Lis
 unfolding step_answers remaining_links check_step after_step
 steps_held p k n L (none S T J) h = (refl, h)
 steps_held p k n L (insertion S T J l r U K Y B E W M m i) h =
-    let g = steps_held p k n _ i (m.holds p k n L h) in (ap₂ (λ (a : Said) (C : List Said). a ∷ C) (m.answer p k n L h) g.0, g.1)
+    let g = steps_held p k n (accept p k n L l) i (m.holds p k n L h) in (ap₂ (λ (a : Said) (C : List Said). a ∷ C) (m.answer p k n L h) g.0, g.1)
 steps_held p k n L (taking S T J r U K Y B E W M m i) h =
-    let g = steps_held p k n _ i (m.holds p k n L h) in (ap₂ (λ (a : Said) (C : List Said). a ∷ C) (m.answer p k n L h) g.0, g.1)
+    let g = steps_held p k n (front L) i (m.holds p k n L h) in (ap₂ (λ (a : Said) (C : List Said). a ∷ C) (m.answer p k n L h) g.0, g.1)
 
 -- the claim
 pub every_list : (p k : ℕ) (T : Tables) (J : List ℕ) (r : Stepped) (U : Tables) (K : List ℕ) → StartMeets p k T J r U K → check_start p k T J ≡ accepted
@@ -97,7 +97,7 @@ every_list p k T J r U K m ok X A S W M i =
       passes = held_all p k n _ S W M g.1;
       holds = g.1;
       many = g.1.many;
-      used = g.1.same-used ∙ used_is p k n _ S W M g.1;
+      used = g.1.same_used ∙ used_is p k n _ S W M g.1;
       last = g.1.last;
       journal = g.1.journal;
       now = λ old a out l. record { chains = all_chains (remaining_links p k n [] X) p k; lists = l.lists p k n _ M g.1 };

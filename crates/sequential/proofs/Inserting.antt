@@ -11,7 +11,7 @@ use lib.ListN.{length, get_or, set, length-append}
 use borrow.Author.Tests.{leb-true, le-leb, eq-eqb}
 use Rattle.answers.specs.Verdict.{Verdict, accepted, refused, ◌then◌, unless}
 use Rattle.answers.specs.Answers.{counts, refuses, says}
-use Rattle.answers.proofs.Laws.{go, then_go, then_stop, say_accepted, say_refused, accepted_not}
+use Rattle.answers.proofs.Laws.{then_go, then_stop, say_accepted, say_refused, accepted_not}
 use Rattle.sets.specs.Lists.{◌∈◌, below}
 use Rattle.sets.specs.Sets.{has}
 use Rattle.sets.specs.Value.{width, row}
@@ -116,11 +116,11 @@ module _ (p k n : ℕ) (L : List Link) (S : State) (T : Tables) (J : List ℕ) (
   held_good : good_state S T.entries ≡ true
   unfolding good_state
   held_good =
-      and_intro _ _ (ap good_k h.same-k ∙ h.size)
-      (and_intro _ _ (ap good_count h.same-p ∙ h.count)
-      (and_intro _ _ (le-leb S.used (room T.entries) (omega (arith, h.same-used, h.shows.fits)))
+      and_intro _ _ (ap good_k h.same_k ∙ h.size)
+      (and_intro _ _ (ap good_count h.same_p ∙ h.count)
+      (and_intro _ _ (le-leb S.used (room T.entries) (omega (arith, h.same_used, h.shows.fits)))
       (all_at (λ i. leb (get_or T.entries i 0) i) (below S.used)
-      (λ i m. le-leb (get_or T.entries i 0) i (h.shows.down i (omega (arith, h.same-used, below_of S.used m)))))))
+      (λ i m. le-leb (get_or T.entries i 0) i (h.shows.down i (omega (arith, h.same_used, below_of S.used m)))))))
 
   pub held_number : state_number S T ≡ 0
   unfolding state_number
@@ -163,7 +163,7 @@ module _ (p k n : ℕ) (L : List Link) (S : State) (T : Tables) (J : List ℕ) (
     number = link_number S.p R S.last l
 
     number_is : number ≡ link_number p R (last_weight L) l
-    number_is = ap₂ (λ (q w : ℕ). link_number q R w l) h.same-p h.last
+    number_is = ap₂ (λ (q w : ℕ). link_number q R w l) h.same_p h.last
 
     link_number_lem : check_link p L l 0 ≡ numbered number 0
     link_number_lem = link_says p L R l 0 held_wide h.near narrow ∙ ap (λ (m : ℕ). numbered m 0) (sym number_is)
@@ -179,13 +179,13 @@ module _ (p k n : ℕ) (L : List Link) (S : State) (T : Tables) (J : List ℕ) (
       slots_with : slots p k (cliques (L ++ (l ∷ [])) p k) ≡ T.used + more
       slots_with =
           slots_more p L R h.links held_wide h.near l k two (check_new p L l 0 ok) rising fits
-          ∙ ap₂ (λ (u j : ℕ). u + added_by R j l.low l.high) (sym used_is) (sym h.same-k)
+          ∙ ap₂ (λ (u j : ℕ). u + added_by R j l.low l.high) (sym used_is) (sym h.same_k)
 
       enough_is : enough n (slots p k (cliques (L ++ (l ∷ [])) p k)) ≡ leb more (room T.entries - S.used)
       enough_is =
           ap (λ (m : ℕ). enough m (slots p k (cliques (L ++ (l ∷ [])) p k))) (sym h.slots)
-          ∙ iff _ _ (λ e. le-leb more _ (omega (arith, room_enough T.entries _ e, slots_with, h.same-used, h.shows.fits)))
-          (λ e. enough_room T.entries _ (omega (arith, leb-true more _ e, slots_with, h.same-used, h.shows.fits)))
+          ∙ iff _ _ (λ e. le-leb more _ (omega (arith, room_enough T.entries _ e, slots_with, h.same_used, h.shows.fits)))
+          (λ e. enough_room T.entries _ (omega (arith, leb-true more _ e, slots_with, h.same_used, h.shows.fits)))
 
     pub step_says_lem : check_insert p k n L l ≡ numbered (link_step S T.entries l) 0
     unfolding check_insert link_step
@@ -230,15 +230,15 @@ module _ (p k n : ℕ) (L : List Link) (S : State) (T : Tables) (J : List ℕ) (
       held_more = record {
         count = h.count;
         size = h.size;
-        same_p = h.same-p;
-        same_k = h.same-k;
+        same_p = h.same_p;
+        same_k = h.same_k;
         same_used = refl;
         last = sym (last_more L l);
         near = near_more L R l h.near (omega (arith, held_wide, rising passed, fits passed)) (omega (arith, held_wide, fits passed));
         links = legal_more p L l 0 h.links passed;
         slots = (all_kept T (new_cliques R S.k l.low l.high)).entries ∙ h.slots;
         shows =
-            subst⁻¹ (λ (j : ℕ). Shows p k (cliques (L ++ (l ∷ [])) p k) (took_all T (new_cliques R j l.low l.high))) h.same-k
+            subst⁻¹ (λ (j : ℕ). Shows p k (cliques (L ++ (l ∷ [])) p k) (took_all T (new_cliques R j l.low l.high))) h.same_k
             (insert_shown p L R h.links held_wide h.near l k two (check_new p L l 0 passed) (rising passed) (fits passed) T h.shows within);
         many = omega (arith, h.many, few_more, length-append L (l ∷ []));
         narrow = narrow_more;

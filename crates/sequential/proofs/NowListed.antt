@@ -38,7 +38,7 @@ module _ (S : State) (T : Tables) (old : List ℕ) (r : Answer) (out : List ℕ)
   ends_are : (p k n : ℕ) (L : List Link) (J : List ℕ) → Holds p k n L S T J → C ≡ listing L p k 0
   unfolding listing family
   ends_are p k n L J h =
-      ap (listed T.entries T.smallest T.unions) h.same-used
+      ap (listed T.entries T.smallest T.unions) h.same_used
       ∙ listed_communities p k (cliques L p k) T (cliques_family L p k) (omega (arith, (good_k_lem k h.size).0)) h.shows
       ∙ ap (λ (M : List Link). communities k (cliques M p k)) (sym (heavy_zero L))
 

@@ -19,13 +19,13 @@ loop-i-preserved c =
     let l = c.loop-i in
     let t = sym c.is_root.ensures in
     elim c.if-is_root.branch [
-      then-is_root w ↦
+      | then-is_root w ↦
           let e = t ∙ w.if-is_root.true in
           let room = filled_room _ _ _ _ l.i l.n l.out l.invariant.2 e _ c.requires c.loop-i-test.true in (
             omega arith,
             omega arith,
             filled_yes _ _ _ _ l.i l.n l.out l.invariant.2 e _ _ _ _ _ w.at.ensures w.at-then-is_root.ensures
-            (held w.at.result w.at.type_inv) room w.put.ensures w.put.auto.out w.n-is w.out-is,
+                (held w.at.result w.at.type_inv) room w.put.ensures w.put.auto.out w.n-is w.out-is,
           )
       | else-is_root w ↦ (omega arith, omega arith, filled_no _ _ _ _ l.i l.n l.out l.invariant.2 _ _ (t ∙ w.if-is_root.false) w.n-is w.out-is)
     ]

@@ -16,7 +16,7 @@ loop-i-preserved c =
     let es = c.args.entries.now in
     let t = sym c.is_root.ensures in
     elim c.if-is_root.branch [
-      then-is_root w ↦ (omega arith, omega arith, w.n-is ∙ ap (λ (j : ℕ). j + 1) l.invariant.2 ∙ sym (ends_yes es l.i (t ∙ w.if-is_root.true)))
+      | then-is_root w ↦ (omega arith, omega arith, w.n-is ∙ ap (λ (j : ℕ). j + 1) l.invariant.2 ∙ sym (ends_yes es l.i (t ∙ w.if-is_root.true)))
       | else-is_root w ↦ (omega arith, omega arith, w.n-is ∙ l.invariant.2 ∙ sym (ends_no es l.i (t ∙ w.if-is_root.false)))
     ]
 

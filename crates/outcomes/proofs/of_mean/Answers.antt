@@ -1,4 +1,3 @@
-use borrow.Author.Rules.{rules}
 use mathlib.Core.Path.{◌≡◌, sym, ap, ◌∙◌}
 use Prim.Native.Nat.{ℕ}
 use Rattle.mean.specs.Answers.{mean_says}
@@ -14,10 +13,10 @@ pub returns-in-Weights : goal.returns-in-Weights
 unfolding mean_shown
 returns-in-Weights c =
     with_outcome _ _ _ c.mean_of.ensures c.counted.ensures
-    ∙ sym (ap (λ a. mean_shown (mean_says a)) c.family-1.given.1)
+    ∙ sym (ap (λ a. mean_shown (mean_says a)) c.in-Weights.is)
 
 pub returns-in-Refused : goal.returns-in-Refused
 unfolding mean_shown
 returns-in-Refused c =
     with_outcome _ _ _ c.mean_of-in-Refused.ensures c.refused.ensures
-    ∙ sym (ap (λ a. mean_shown (mean_says a)) c.family-in-Refused-1.given.1)
+    ∙ sym (ap (λ a. mean_shown (mean_says a)) c.in-Refused.is)

@@ -1,4 +1,3 @@
-use borrow.Author.Rules.{rules}
 use mathlib.Core.Path.{◌≡◌, sym, ap, ◌∙◌}
 use Prim.Native.Nat.{ℕ}
 use Rattle.needs.specs.Needs.{need_says}
@@ -14,10 +13,10 @@ pub returns-in-Counts : goal.returns-in-Counts
 unfolding need_shown
 returns-in-Counts c =
     with_outcome _ _ _ c.need_of.ensures c.counted.ensures
-    ∙ sym (ap (λ a. need_shown (need_says a)) c.needed-1.given.1)
+    ∙ sym (ap (λ a. need_shown (need_says a)) c.in-Counts.is)
 
 pub returns-in-Refused : goal.returns-in-Refused
 unfolding need_shown
 returns-in-Refused c =
     with_outcome _ _ _ c.need_of-in-Refused.ensures c.refused.ensures
-    ∙ sym (ap (λ a. need_shown (need_says a)) c.needed-in-Refused-1.given.1)
+    ∙ sym (ap (λ a. need_shown (need_says a)) c.in-Refused.is)

@@ -2,7 +2,6 @@ use native.Mathlib.Omega.{arith}
 use Rattle.sequential.proofs.Inserting.{refused_meets, taken_meets}
 use Rattle.states.proofs.Checking.{insert_two, insert_room, insert_parts}
 use mathlib.Core.Path.{refl, sym, ap, ◌∙◌}
-use borrow.Author.Rules.{rules}
 use Rattle.slots.specs.Tables.{tables}
 use Rattle.states.specs.declared.State.{State}
 use Rattle.sequential.proofs.insert.Goals as goal

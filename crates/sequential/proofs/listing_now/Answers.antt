@@ -1,6 +1,5 @@
 use Rattle.sequential.proofs.NowListed.{unlisted_meets, listed_meets}
 use mathlib.Core.Path.{refl, sym, ◌∙◌}
-use borrow.Author.Rules.{rules}
 use Rattle.sequential.proofs.listing_now.Goals as goal
 
 pub returns-then-n-ne0 : goal.returns-then-n-ne0

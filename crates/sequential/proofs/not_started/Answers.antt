@@ -2,7 +2,6 @@ use Rattle.sequential.specs.Steps.{state}
 use Prim.Native.Nat.{ℕ}
 use mathlib.Core.List.{List}
 use mathlib.Core.Path.{refl, ap}
-use borrow.Author.Rules.{rules}
 use Rattle.sequential.proofs.not_started.Goals as goal
 
 pub returns : goal.returns

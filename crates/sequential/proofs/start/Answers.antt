@@ -1,7 +1,5 @@
 use Rattle.sequential.proofs.Starting.{start_4, start_10, start_11, start_20, start_passes, not_meets, begun_meets}
 use mathlib.Core.Path.{refl, sym, ◌∙◌}
-use borrow.Author.Tests.{not-true, not-false}
-use borrow.Author.Rules.{rules}
 use Rattle.sequential.proofs.start.Goals as goal
 
 pub returns-then-not-good_count : goal.returns-then-not-good_count

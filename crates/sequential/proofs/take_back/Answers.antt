@@ -1,7 +1,6 @@
 use Rattle.sequential.proofs.Backing.{back_refused, back_meets}
 use Rattle.states.proofs.Checking.{back_two, back_wide, back_within}
 use mathlib.Core.Path.{refl, sym, ap, ◌∙◌}
-use borrow.Author.Rules.{rules}
 use Rattle.slots.specs.Tables.{tables}
 use Rattle.states.specs.declared.State.{State}
 use Rattle.sequential.proofs.take_back.Goals as goal

@@ -1,7 +1,5 @@
 use mathlib.Core.Path.{refl, sym, ◌∙◌}
 use native.Mathlib.Omega.{arith}
-use borrow.Author.Rules.{rules}
-use borrow.Author.Tests.{not-true, not-false}
 use Rattle.percolation.proofs.Ranges.{good_k_lem}
 use Rattle.runs.proofs.Admitted.{call_sheet, call_k}
 use Rattle.runs.proofs.Calls.{run_short, run_listing}

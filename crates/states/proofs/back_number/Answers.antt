@@ -1,6 +1,5 @@
 use Rattle.states.proofs.Checking.{back_stop, back_19, back_0}
 use mathlib.Core.Path.{sym, ◌∙◌}
-use borrow.Author.Rules.{rules}
 use Rattle.states.proofs.back_number.Goals as goal
 
 pub returns-then-n-ne0 : goal.returns-then-n-ne0

@@ -1,8 +1,6 @@
-use borrow.Author.Tests.{not-true, not-false}
 use Rattle.states.proofs.Checking.{bad_k, bad_count, bad_used, good_used}
 use native.Mathlib.Omega.{arith}
 use mathlib.Core.Path.{sym, ◌∙◌}
-use borrow.Author.Rules.{rules}
 use Rattle.states.proofs.good_state.Goals as goal
 
 pub returns-then-not-good_k : goal.returns-then-not-good_k

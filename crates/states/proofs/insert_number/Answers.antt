@@ -1,6 +1,5 @@
 use Rattle.states.proofs.Checking.{state_two, state_room, journal_good, number_stop, number_go}
 use mathlib.Core.Path.{sym, ◌∙◌}
-use borrow.Author.Rules.{rules}
 use Rattle.states.proofs.insert_number.Goals as goal
 
 pub returns-then-n-ne0 : goal.returns-then-n-ne0

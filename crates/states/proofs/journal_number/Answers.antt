@@ -1,7 +1,5 @@
 use Rattle.states.proofs.Checking.{journal_stop, journal_20, journal_0}
 use mathlib.Core.Path.{sym, ◌∙◌}
-use borrow.Author.Tests.{not-true, not-false}
-use borrow.Author.Rules.{rules}
 use Rattle.states.proofs.journal_number.Goals as goal
 
 pub returns-then-n-ne0 : goal.returns-then-n-ne0

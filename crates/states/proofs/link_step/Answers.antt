@@ -1,7 +1,6 @@
 use Rattle.states.proofs.Checking.{step_stop, step_15, step_0}
 use native.Mathlib.Omega.{arith}
 use mathlib.Core.Path.{sym, ◌∙◌}
-use borrow.Author.Rules.{rules}
 use Rattle.states.proofs.link_step.Goals as goal
 
 pub returns-then-n-ne0 : goal.returns-then-n-ne0

@@ -1,7 +1,5 @@
-use borrow.Author.Tests.{not-true, not-false}
 use Rattle.states.proofs.Checking.{state_11, state_12, state_0}
 use mathlib.Core.Path.{sym, ◌∙◌}
-use borrow.Author.Rules.{rules}
 use Rattle.states.proofs.state_number.Goals as goal
 
 pub returns-then-not-level : goal.returns-then-not-level

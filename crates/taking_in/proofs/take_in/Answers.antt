@@ -9,8 +9,11 @@ returns-then-is_empty c =
     let t = c in
     let z = t in
     let w = z in
-    let a = w in record { result_after = took_in_lem _ _ _ _ _ _ (peeled _ _ _ w.lowest.ensures w.without-rest.ensures) z.find-first.ensures
-          (sym (peel_end _ _ _ _ (sym z.is_empty.ensures ∙ t.if-is_empty.true))) (t.touch.ensures _); upper_bound = a.requires }
+    let a = w in record {
+      result_after = took_in_lem _ _ _ _ _ _ (peeled _ _ _ w.lowest.ensures w.without-rest.ensures) z.find-first.ensures
+          (sym (peel_end _ _ _ _ (sym z.is_empty.ensures ∙ t.if-is_empty.true))) (t.touch.ensures _);
+      upper_bound = a.requires;
+    }
 
 pub returns : goal.returns
 returns c =

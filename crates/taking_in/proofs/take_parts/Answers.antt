@@ -26,7 +26,7 @@ loop-q-preserved c =
       k.unions ∙ l.invariant.5,
       l.invariant.6
           ∙ peel_next _ _ _ (sym c.is_empty.ensures ∙ c.loop-q-test.true) c.lowest-part.ensures c.without-rest.ensures _ _ _ _ l.invariant.0
-            c.take_part-n.ensures.result_after,
+          c.take_part-n.ensures.result_after,
     )
 
 pub returns : goal.returns
