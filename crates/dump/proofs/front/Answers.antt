@@ -1,4 +1,3 @@
-use borrow.Author.Rules.{rules}
 use mathlib.Core.Path.{ap, ap₂, ◌∙◌}
 use lib.ListN.{length}
 use Rattle.answers.specs.Verdict.{◌then◌, unless}

@@ -1,7 +1,5 @@
-use borrow.Author.Rules.{rules}
 use mathlib.Core.Path.{◌≡◌, sym, ap, ◌∙◌}
 use native.Mathlib.Omega.{arith}
-use Prim.Native.Nat.{ℕ, ◌+◌, ◌-◌, ◌*◌, ◌≤◌}
 use Rattle.dump_theory.specs.Rows.{pairs_in}
 use Rattle.dump.specs.Dump.{rows_in, row_of, tripped}
 use Rattle.dump.proofs.Added.{added_to, added_none, added_more}

@@ -1,10 +1,8 @@
-use borrow.Author.Rules.{rules}
-use mathlib.Core.Path.{◌≡◌, sym, ap, ◌∙◌}
-use native.Mathlib.Omega.{arith}
-use Prim.Native.Nat.{ℕ, ◌+◌, ◌-◌, ◌*◌, ◌≤◌}
+use mathlib.Core.Path.{◌≡◌}
+use Prim.Native.Nat.{◌-◌, ◌*◌, ◌≤◌}
 use Rattle.dump_theory.specs.Rows.{pairs_in}
-use Rattle.dump.specs.Dump.{rows_in, row_of, tripped}
-use Rattle.dump.proofs.Added.{added_to, added_none, added_more}
+use Rattle.dump.specs.Dump.{row_of}
+use Rattle.dump.proofs.Added.{added_to}
 use Rattle.dump.proofs.pair_sum.Given as goal
 
 abbrev pub invariant-loop-i : goal.invariant-loop-i

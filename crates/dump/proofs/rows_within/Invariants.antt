@@ -1,11 +1,7 @@
-use borrow.Author.Rules.{rules}
-use mathlib.Core.Path.{◌≡◌, sym, ap, ◌∙◌}
-use native.Mathlib.Omega.{arith}
+use mathlib.Core.Path.{◌≡◌}
 use Prim.Native.Nat.{◌-◌, ◌≤◌}
-use borrow.Author.Tests.{not-true, not-false}
-use Rattle.answers.specs.Verdict.{accepted, refused, in_order}
+use Rattle.answers.specs.Verdict.{accepted, in_order}
 use Rattle.dump.specs.Dump.{check_row}
-use Rattle.dump.proofs.Rows.{row_test, rows_none, rows_more, rows_stop}
 use Rattle.dump.proofs.rows_within.Given as goal
 
 abbrev pub invariant-loop-i : goal.invariant-loop-i

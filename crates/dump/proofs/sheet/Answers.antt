@@ -1,4 +1,3 @@
-use borrow.Author.Rules.{rules}
 use mathlib.Core.Path.{◌≡◌, refl, sym, ap, ◌∙◌}
 use Prim.Native.Nat.{◌+◌, ◌*◌, ◌-◌}
 use native.Mathlib.Omega.{arith}
@@ -14,24 +13,26 @@ pub returns-in-Stop : goal.returns-in-Stop
 unfolding say_of
 returns-in-Stop c =
     let a = c.args in
-    make_refused a.dump.now a.out.now _ _ _ (sym c.check.ensures ∙ ap verdict c.n-1.given.1) refl
+    make_refused a.dump.now a.out.now _ _ _ (sym c.check.ensures ∙ ap verdict c.in-Stop.is) refl
 
 pub count_rows-requires : goal.count_rows-requires
 count_rows-requires c = counts_none
 
+pub slice_bounds-write_weighed-end : goal.slice_bounds-write_weighed-end
+slice_bounds-write_weighed-end c =
+    let e = sym c.check.ensures ∙ ap verdict c.in_default.is in
+    omega (arith, front_length _ (dump_front _ e), c.part_count-p.ensures.0)
+
 pub write_weighed-requires : goal.write_weighed-requires
 write_weighed-requires c =
-    let r = c in
-    let e = sym r.check.ensures ∙ ap verdict r.enum_told-1.given.1 in
-    (omega (arith, front_most _ (dump_front _ e), r.part_count-p.ensures.0), r.count_rows.ensures.places)
+    let e = sym c.check.ensures ∙ ap verdict c.in_default.is in
+    (omega (arith, front_most _ (dump_front _ e), c.part_count-p.ensures.0), c.count_rows.ensures.places)
 
 pub returns : goal.returns
 returns c =
-    let r = c in
-    let p = r.part_count-p in
-    let z = r in
-    let a = z.args in
-    let e = sym z.check.ensures ∙ ap verdict r.enum_told-1.given.1 in
-    let small : Bytes a.dump.now = record { small = λ i. (z.shared_slice_known-1.given i).fits } in
-    make_meets a.dump.now e small r.count_rows.new.1.0 a.out.now _ _ p.result _ r.count_rows.ensures p.ensures.0
+    let p = c.part_count-p in
+    let a = c.args in
+    let e = sym c.check.ensures ∙ ap verdict c.in_default.is in
+    let small : Bytes a.dump.now = record { small = λ i. (c.type_inv.dump i).fits } in
+    make_meets a.dump.now e small c.count_rows.new.counts a.out.now _ _ p.result _ c.count_rows.ensures p.ensures.0
     (let l : 8 + 8 * p.result - 8 ≡ 8 * p.result = omega arith in l) c.write_weighed.ensures

@@ -1,8 +1,5 @@
-use borrow.Author.Rules.{rules}
 use mathlib.Core.Path.{◌≡◌, sym, ap, ◌∙◌}
 use native.Mathlib.Omega.{arith}
-use Prim.Native.Nat.{ℕ, ◌+◌, ◌-◌, ◌*◌, ◌≤◌}
-use Rattle.percolation.specs.Links.{Link}
 use Rattle.sheet.specs.Sheet.{links, link_of, links_of}
 use Rattle.percolation.specs.Weights.{weight_sum}
 use Rattle.dump.proofs.Added.{added_to, added_none, added_more}

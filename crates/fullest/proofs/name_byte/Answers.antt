@@ -1,5 +1,4 @@
 use native.Mathlib.Omega.{arith}
-use borrow.Author.Rules.{rules}
 use mathlib.Core.Path.{refl}
 use Rattle.fullest.proofs.PartNames.{byte_mark, byte_tens, byte_ones, byte_space}
 use Rattle.fullest.proofs.name_byte.Goals as goal

@@ -1,9 +1,6 @@
-use mathlib.Core.Path.{◌≡◌}
-use Prim.Native.Nat.{◌-◌, ◌≤◌}
 use native.Mathlib.Omega.{arith}
-use lib.ListN.{length}
 use borrow.Author.Rules.{rules}
-use Rattle.fullest.proofs.PartNames.{Named_to, named_more, named_all}
+use Rattle.fullest.proofs.PartNames.{named_more, named_all}
 use Rattle.fullest.proofs.name_parts.Goals as goal
 
 pub loop-i-init : goal.loop-i-init

@@ -1,9 +1,7 @@
 use mathlib.Core.Path.{◌≡◌}
 use Prim.Native.Nat.{◌-◌, ◌≤◌}
-use native.Mathlib.Omega.{arith}
 use lib.ListN.{length}
-use borrow.Author.Rules.{rules}
-use Rattle.fullest.proofs.PartNames.{Named_to, named_more, named_all}
+use Rattle.fullest.proofs.PartNames.{Named_to}
 use Rattle.fullest.proofs.name_parts.Given as goal
 
 abbrev pub invariant-loop-i : goal.invariant-loop-i

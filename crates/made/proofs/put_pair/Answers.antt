@@ -1,6 +1,5 @@
 use mathlib.Core.Path.{sym, ◌∙◌}
 use native.Mathlib.Omega.{arith}
-use borrow.Author.Rules.{rules}
 use borrow.Author.Tests.{eq-eqb, ne_eqb}
 use Rattle.percolation.specs.Links.{link}
 use Rattle.link_order.specs.Order.{link_lists}
@@ -28,7 +27,7 @@ returns-then-put c =
     let p = c.put.ensures in
     meets_put (link a.low a.high a.weight) t _ a.m
     (ne_eqb a.weight 0 c.if-weight-eq0.false)
-    p.1 (sym p.0 ∙ c.if-put.true)
+    p.weights_after (sym p.value ∙ c.if-put.true)
 
 pub returns : goal.returns
 returns c =
@@ -37,4 +36,4 @@ returns c =
     let p = c.put.ensures in
     meets_full (link a.low a.high a.weight) t _ a.m
     (ne_eqb a.weight 0 c.if-weight-eq0.false)
-    p.1 (sym p.0 ∙ c.if-put.false)
+    p.weights_after (sym p.value ∙ c.if-put.false)

@@ -1,16 +1,14 @@
-use borrow.Author.Rules.{rules}
 use mathlib.Core.Path.{◌≡◌, refl, sym, ap, ap₂, ◌∙◌, subst}
 use mathlib.Core.List.{List}
-use Prim.Native.Nat.{ℕ, ◌+◌, ◌*◌, ◌-◌, ◌/◌, ◌%◌, ◌≤◌}
+use Prim.Native.Nat.{ℕ, ◌+◌, ◌*◌, ◌/◌, ◌%◌}
 use native.Mathlib.Omega.{arith}
-use lib.ListN.{length, get_or}
+use lib.ListN.{get_or}
 use lib.Seq.{length-take-le}
 use Rattle.percolation.specs.Links.{link}
 use Rattle.link_order.specs.Order.{link_lists}
 use Rattle.sheet.specs.Network.{Network}
 use Rattle.sheet_writer.specs.Writing.{WriteMeets}
-use Rattle.made.specs.Made.{weighed_of, weighed, weight_at}
-use Rattle.made.specs.Model.{LinksStand, pairs_before}
+use Rattle.made.specs.Made.{weighed, weight_at}
 use Rattle.made.proofs.Standing.{room_for, stand_network}
 use Rattle.made.proofs.Turns.{turn_first, turn_pair, turn_none, turn_last, turn_few}
 use Rattle.made.proofs.write_weighed.Goals as goal
@@ -45,7 +43,7 @@ loop-i-preserved-then-is_pair c =
     let stand = turn_pair (weight_at a.table.now) a.p _ l.i l.m k.result (link_lists l.lower l.higher l.weights) _ _
     (room_for _ 4095 (omega arith) (omega arith) (omega arith))
     c.loop-i-test.true e same l.invariant.0 k.ensures in
-    (stand, omega arith, k.auto.0 ∙ l.invariant.2, k.auto.1.0 ∙ l.invariant.3, k.auto.1.1.0 ∙ l.invariant.4)
+    (stand, omega arith, k.auto.lower ∙ l.invariant.2, k.auto.higher ∙ l.invariant.3, k.auto.weights ∙ l.invariant.4)
 
 pub loop-i-preserved : goal.loop-i-preserved
 loop-i-preserved c =
@@ -122,5 +120,5 @@ returns c =
     let a = c.args in
     let done = turn_last (weight_at a.table.now) a.p _ l.i l.m _
     c.requires.0 (omega arith) l.invariant.0 in
-    subst (λ (n : Network). WriteMeets n a.out.now c.write.result c.write.new.1.1.1.1.0)
+    subst (λ (n : Network). WriteMeets n a.out.now c.write.result c.write.new.out)
     (stand_network a.names.now (weighed (weight_at a.table.now) a.p) _ _ l.m done) c.write.ensures

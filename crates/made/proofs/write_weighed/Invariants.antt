@@ -1,18 +1,9 @@
-use borrow.Author.Rules.{rules}
-use mathlib.Core.Path.{◌≡◌, refl, sym, ap, ap₂, ◌∙◌, subst}
-use mathlib.Core.List.{List}
-use Prim.Native.Nat.{ℕ, ◌+◌, ◌*◌, ◌-◌, ◌/◌, ◌%◌, ◌≤◌}
-use native.Mathlib.Omega.{arith}
-use lib.ListN.{length, get_or}
-use lib.Seq.{length-take-le}
-use Rattle.percolation.specs.Links.{link}
+use mathlib.Core.Path.{◌≡◌}
+use Prim.Native.Nat.{◌-◌, ◌≤◌}
+use lib.ListN.{length}
 use Rattle.link_order.specs.Order.{link_lists}
-use Rattle.sheet.specs.Network.{Network}
-use Rattle.sheet_writer.specs.Writing.{WriteMeets}
-use Rattle.made.specs.Made.{weighed_of, weighed, weight_at}
+use Rattle.made.specs.Made.{weighed_of, weight_at}
 use Rattle.made.specs.Model.{LinksStand, pairs_before}
-use Rattle.made.proofs.Standing.{room_for, stand_network}
-use Rattle.made.proofs.Turns.{turn_first, turn_pair, turn_none, turn_last, turn_few}
 use Rattle.made.proofs.write_weighed.Given as goal
 
 abbrev pub invariant-loop-i : goal.invariant-loop-i

@@ -1,9 +1,5 @@
-use borrow.Author.Rules.{rules}
-use mathlib.Core.Path.{refl, sym, ◌∙◌, subst}
-use Prim.Native.Nat.{ℕ}
-use borrow.Author.Tests.{not-true, not-false}
 use Rattle.sets.specs.Value.{num}
-use Rattle.row_counts.proofs.Peeling.{lowest_answer, part_below, fewer, RowLeft, row_done, rest_fits, rest_room, row_more}
+use Rattle.row_counts.proofs.Peeling.{RowLeft}
 use Rattle.row_counts.proofs.count_row.Given as goal
 
 -- The invariant: the pairs of the parts left, from the table as it is, give what those of the row give from the table at the start. Assumes nothing.

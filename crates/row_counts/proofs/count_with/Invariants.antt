@@ -1,8 +1,5 @@
-use borrow.Author.Rules.{rules}
-use mathlib.Core.Path.{refl, sym, ◌∙◌}
-use borrow.Author.Tests.{not-true, not-false}
 use Rattle.sets.specs.Value.{num}
-use Rattle.row_counts.proofs.Peeling.{lowest_answer, part_below, fewer, WithLeft, with_done, with_room, with_more}
+use Rattle.row_counts.proofs.Peeling.{WithLeft}
 use Rattle.row_counts.proofs.count_with.Given as goal
 
 -- The invariant: the pairs left to count, from the table as it is, give what all of them give from the table at the start. Assumes nothing.

@@ -1,4 +1,3 @@
-use borrow.Author.Rules.{rules}
 use mathlib.Core.Path.{refl}
 use Rattle.dump_theory.specs.Model.{raised}
 use Rattle.row_counts.proofs.raise.Goals as goal
