@@ -1,8 +1,5 @@
 use native.Mathlib.Omega.{arith}
-use borrow.Author.Rules.{rules}
-use Prim.Native.Nat.{◌≤◌}
-use Rattle.sets.specs.Value.{num}
-use Rattle.meeting_sequential.proofs.Turns.{Later, later_none, later_more, complete_here, complete_none}
+use Rattle.meeting_sequential.proofs.Turns.{later_none, later_more, complete_here, complete_none}
 use Rattle.meeting_sequential.proofs.complete.Goals as goal
 
 pub loop-j-init : goal.loop-j-init
