@@ -6,7 +6,7 @@ use Prim.Native.Nat.{ℕ, ◌≤◌, ◌/◌, ◌%◌}
 use native.Mathlib.Omega.{arith}
 use lib.Dec.{eqb}
 use lib.ListN.{length, take, drop}
-use Rattle.answers.specs.Verdict.{Verdict, accepted, refused, ◌then◌, unless}
+use Rattle.answers.specs.Verdict.{Verdict, accepted, refused, unless}
 use Rattle.answers.proofs.Laws.{then_left, then_right, then_stop, then_go, last_stop, last_go, unless_passed}
 use Rattle.sets.specs.Lists.{◌∈◌, any, keep}
 use Rattle.sets.specs.Sets.{out, lowest}
@@ -23,7 +23,7 @@ use Rattle.slots.specs.Model.{find}
 use Rattle.slots_theory.proofs.Communal.{member_found}
 use Rattle.clique_taking.proofs.Inserted.{cliques_family}
 use Rattle.sheet.specs.Answers.{sheet_says, sheet_say}
-use Rattle.sheet.specs.Sheet.{parts, links, links_of, check_sheet}
+use Rattle.sheet.specs.Sheet.{parts, links_of, check_sheet}
 use Rattle.sheet.specs.declared.Checked.{Checked}
 use Rattle.sheet.specs.declared.Checked.TheVariants.{Fine, Faulty}
 use Rattle.sheet.proofs.Sound.{sheet_legal}

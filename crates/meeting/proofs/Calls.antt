@@ -4,7 +4,7 @@ use mathlib.Core.Bool.{Bool, true, false}
 use mathlib.Core.List.{List}
 use Prim.Native.Nat.{ℕ}
 use lib.ListN.{length}
-use Rattle.answers.specs.Verdict.{Verdict, refused, ◌then◌, unless}
+use Rattle.answers.specs.Verdict.{Verdict, unless}
 use Rattle.answers.proofs.Laws.{last_stop, last_go, then_stop, then_go}
 use Rattle.percolation.specs.Levels.{Meeting}
 use Rattle.slots.specs.Tables.{Tables}

@@ -10,7 +10,6 @@ use native.Mathlib.Omega.{arith}
 use lib.ListN.{length, get_or, take, drop, take-append-drop, length-drop}
 use lib.Seq.{take-suc, split_at, get_or-take, get_or-drop, length-take-le}
 use Rattle.sets.specs.Lists.{◌∈◌}
-use Rattle.sets.specs.Sets.{has}
 use Rattle.sets.proofs.Tests.{never, lt_or_le}
 use Rattle.sets.proofs.ListLaws.{Holds, get_d_member}
 use Rattle.percolation.specs.Percolate.{adjacent, Chain, joined}

@@ -1,11 +1,6 @@
-use mathlib.Core.Path.{◌≡◌, ap}
 use Prim.Native.Nat.{◌-◌, ◌≤◌}
-use native.Mathlib.Omega.{arith}
-use borrow.Author.Rules.{rules}
-use Rattle.percolation.specs.Links.{Link}
-use Rattle.runs.proofs.InSheet.{links_few}
 use Rattle.mean.specs.Model.{counts}
-use Rattle.mean.proofs.Adding.{Adding, adding_none, adding_yes, adding_no, adding_all, counts_ends}
+use Rattle.mean.proofs.Adding.{Adding}
 use Rattle.mean.proofs.count_links.Given as goal
 
 -- The invariant: what the counted links so far add up to. Assumes nothing.

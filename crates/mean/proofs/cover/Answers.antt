@@ -1,12 +1,8 @@
 use mathlib.Core.Path.{◌≡◌, sym, ap, ◌∙◌}
-use Prim.Native.Nat.{◌-◌, ◌≤◌}
 use native.Mathlib.Omega.{arith}
 use lib.ListN.{length}
-use borrow.Author.Rules.{rules}
 use borrow.Author.Tests.{eq-eqb, ne_eqb}
-use Rattle.sets.specs.Value.{no_rows}
 use Rattle.sets.proofs.Tables.{length_none}
-use Rattle.mean.specs.Model.{Covered}
 use Rattle.mean.proofs.Covering.{covered_none, covered_yes, covered_no, covered_all}
 use Rattle.mean.proofs.cover.Goals as goal
 

@@ -1,6 +1,5 @@
 use mathlib.Core.Path.{◌∙◌}
 use native.Mathlib.Omega.{arith}
-use borrow.Author.Rules.{rules}
 use Rattle.percolation.proofs.Ranges.{good_k_lem}
 use Rattle.runs.proofs.Admitted.{call_sheet, call_k}
 use Rattle.mean.proofs.Calls.{family_counted}

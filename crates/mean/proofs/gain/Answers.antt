@@ -1,12 +1,10 @@
 use mathlib.Core.Path.{sym, ap, ◌∙◌}
 use Prim.Native.Nat.{ℕ}
-use borrow.Author.Rules.{rules}
-use borrow.Author.Tests.{not-true, not-false}
 use Rattle.sets.specs.Sets.{union}
 use Rattle.sets.specs.Value.{num}
 use Rattle.sets.proofs.Held.{held}
 use Rattle.slots.proofs.Peel.{peel_less}
-use Rattle.mean.proofs.Gaining.{Gaining, gaining_begin, gaining_next, gaining_end}
+use Rattle.mean.proofs.Gaining.{gaining_begin, gaining_next, gaining_end}
 use Rattle.mean.proofs.gain.Goals as goal
 
 pub loop-s-init : goal.loop-s-init

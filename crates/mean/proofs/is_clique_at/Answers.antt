@@ -1,4 +1,3 @@
-use borrow.Author.Rules.{rules}
 use Rattle.mean.proofs.Calls.{clique_told}
 use Rattle.mean.proofs.is_clique_at.Goals as goal
 

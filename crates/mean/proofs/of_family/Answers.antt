@@ -1,7 +1,5 @@
 use mathlib.Core.Path.{refl, sym, ◌∙◌}
 use native.Mathlib.Omega.{arith}
-use borrow.Author.Rules.{rules}
-use borrow.Author.Tests.{not-true, not-false}
 use Rattle.runs.proofs.Admitted.{told_fine}
 use Rattle.mean.proofs.Calls.{clique_call, clique_sheet, clique_two, first_member, some_links, mean_stopped, mean_short, mean_ran}
 use Rattle.mean.proofs.of_family.Goals as goal

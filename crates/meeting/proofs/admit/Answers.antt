@@ -1,5 +1,3 @@
-use borrow.Author.Rules.{rules}
-use borrow.Author.Tests.{not-true, not-false}
 use mathlib.Core.Path.{sym, ◌∙◌}
 use Rattle.sheet.proofs.Said.{say_faulty, say_holds}
 use Rattle.runs.proofs.Admitted.{told_faulty, told_fine, call_sheet}

@@ -1,8 +1,6 @@
 use mathlib.Core.Path.{sym, ◌∙◌}
-use borrow.Author.Tests.{not-true, not-false}
 use Rattle.sets.proofs.Tests.{and_stop, and_go}
 use Rattle.meeting.proofs.Pairs.{sheet_clique}
-use borrow.Author.Rules.{rules}
 use Rattle.meeting.proofs.are_cliques.Goals as goal
 
 pub returns-then-not-is_clique : goal.returns-then-not-is_clique

@@ -1,5 +1,4 @@
 use mathlib.Core.Path.{sym, ◌∙◌}
-use borrow.Author.Rules.{rules}
 use Rattle.meeting_maximal.proofs.Joined.{met_kept, met_now, met_not}
 use Rattle.meeting_maximal.proofs.first_met.Goals as goal
 

@@ -1,8 +1,5 @@
-use Prim.Native.Nat.{◌≤◌, ◌-◌}
 use native.Mathlib.Omega.{arith}
-use borrow.Author.Rules.{rules}
-use Rattle.sets.specs.Value.{num}
-use Rattle.meeting_maximal.proofs.Joined.{NoneHolds, none_first, none_next, none_at, holds_here}
+use Rattle.meeting_maximal.proofs.Joined.{none_first, none_next, none_at, holds_here}
 use Rattle.meeting_maximal.proofs.holder.Goals as goal
 
 pub loop-i-init : goal.loop-i-init

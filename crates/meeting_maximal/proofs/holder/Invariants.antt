@@ -1,8 +1,6 @@
 use Prim.Native.Nat.{◌≤◌, ◌-◌}
-use native.Mathlib.Omega.{arith}
-use borrow.Author.Rules.{rules}
 use Rattle.sets.specs.Value.{num}
-use Rattle.meeting_maximal.proofs.Joined.{NoneHolds, none_first, none_next, none_at, holds_here}
+use Rattle.meeting_maximal.proofs.Joined.{NoneHolds}
 use Rattle.meeting_maximal.proofs.holder.Given as goal
 
 -- The invariant: no row so far holds the set. Assumes nothing.

@@ -1,6 +1,5 @@
 use Prim.Native.Nat.{◌<◌}
 use native.Mathlib.Omega.{arith}
-use borrow.Author.Rules.{rules}
 use Rattle.meeting_maximal.proofs.Joined.{apart, class_tells}
 use Rattle.meeting_maximal.proofs.joined_in.Goals as goal
 

@@ -1,4 +1,3 @@
-use borrow.Author.Rules.{rules}
 use mathlib.Core.Path.{refl}
 use Rattle.runs.proofs.Admitted.{told_fine}
 use Rattle.meeting.proofs.Calls.{meet_stopped, meet_ran}

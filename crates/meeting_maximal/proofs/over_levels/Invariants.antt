@@ -1,15 +1,9 @@
-use mathlib.Core.Path.{◌≡◌, refl, ap, ◌∙◌}
+use mathlib.Core.Path.{◌≡◌}
 use Prim.Native.Nat.{◌≤◌, ◌-◌}
-use native.Mathlib.Omega.{arith}
-use borrow.Author.Rules.{rules}
 use lib.ListN.{length}
 use Rattle.sets.specs.Value.{num}
-use Rattle.sets.proofs.Tables.{rows_length}
-use Rattle.percolation.specs.Links.{Link}
 use Rattle.sheet.specs.Sheet.{parts, links_of}
-use Rattle.slots.proofs.Lengths.{room_within}
-use Rattle.meeting.proofs.Calls.{meet_short}
-use Rattle.meeting_maximal.proofs.Levels.{Counted, counted_none, level_past, level_short, level_next, levels_never, levels_met}
+use Rattle.meeting_maximal.proofs.Levels.{Counted}
 use Rattle.meeting_maximal.proofs.over_levels.Given as goal
 
 -- The invariant: what is known of the levels of the first n links. Assumes nothing.

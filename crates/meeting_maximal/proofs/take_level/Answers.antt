@@ -1,7 +1,6 @@
 use native.Mathlib.Omega.{arith}
 use Rattle.runs.proofs.InSheet.{parts_width}
 use Rattle.meeting_maximal.proofs.Taken.{level_taken}
-use borrow.Author.Rules.{rules}
 use Rattle.meeting_maximal.proofs.take_level.Goals as goal
 
 pub take_maximal-requires : goal.take_maximal-requires

@@ -1,8 +1,6 @@
-use native.Mathlib.Omega.{arith}
-use borrow.Author.Rules.{rules}
 use Prim.Native.Nat.{◌≤◌}
 use Rattle.sets.specs.Value.{num}
-use Rattle.meeting_sequential.proofs.Turns.{Later, later_none, later_more, complete_here, complete_none}
+use Rattle.meeting_sequential.proofs.Turns.{Later}
 use Rattle.meeting_sequential.proofs.complete.Given as goal
 
 -- The invariant: no link from j on has both ends in s. Assumes nothing.

@@ -1,10 +1,6 @@
-use mathlib.Core.Path.{◌≡◌, ◌∙◌}
+use mathlib.Core.Path.{◌∙◌}
 use native.Mathlib.Omega.{arith}
-use borrow.Author.Rules.{rules}
-use Prim.Native.Nat.{ℕ, ◌-◌}
-use lib.ListN.{length}
-use Rattle.slots.specs.Tables.{tables}
-use Rattle.meeting_sequential.proofs.Turns.{Turn, turn_begin, turn_met, turn_never, turn_more}
+use Rattle.meeting_sequential.proofs.Turns.{turn_begin, turn_met, turn_never, turn_more}
 use Rattle.meeting_sequential.proofs.meet_after.Goals as goal
 
 pub overflow_sub-n : goal.overflow_sub-n

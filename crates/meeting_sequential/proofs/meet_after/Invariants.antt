@@ -1,10 +1,8 @@
-use mathlib.Core.Path.{◌≡◌, ◌∙◌}
-use native.Mathlib.Omega.{arith}
-use borrow.Author.Rules.{rules}
+use mathlib.Core.Path.{◌≡◌}
 use Prim.Native.Nat.{ℕ, ◌-◌}
 use lib.ListN.{length}
 use Rattle.slots.specs.Tables.{tables}
-use Rattle.meeting_sequential.proofs.Turns.{Turn, turn_begin, turn_met, turn_never, turn_more}
+use Rattle.meeting_sequential.proofs.Turns.{Turn}
 use Rattle.meeting_sequential.proofs.meet_after.Given as goal
 
 -- The invariant: what the slots found for a and b show after the first links holds after the links so far. Assumes nothing.

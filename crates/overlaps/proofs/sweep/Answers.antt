@@ -18,21 +18,21 @@ loop-j-preserved c =
     let l = c.loop-j in
     elim c.if-k-count.branch [
       | then-k-count w ↦ (
-          omega (arith, w.e-is),
-          omega (arith, w.e-is),
-          omega arith,
-          c.if-k-count.auto.table ∙ l.invariant.3,
-          sweep_near _ _ _ _ _ _ _ _ _ (omega arith) c.at.ensures c.meet.ensures c.count.ensures l.invariant.4 w.if-k-count.true
-              (w.table-is ∙ w.swap.ensures) w.e-is,
-        )
+        omega (arith, w.e-is),
+        omega (arith, w.e-is),
+        omega arith,
+        c.if-k-count.auto.table ∙ l.invariant.3,
+        sweep_near _ _ _ _ _ _ _ _ _ (omega arith) c.at.ensures c.meet.ensures c.count.ensures l.invariant.4 w.if-k-count.true
+            (w.table-is ∙ w.swap.ensures) w.e-is,
+      )
       | else-k-count w ↦ (
-          omega (arith, w.e-is),
-          omega (arith, w.e-is),
-          omega arith,
-          c.if-k-count.auto.table ∙ l.invariant.3,
-          sweep_far _ _ _ _ _ _ _ _ _ (omega arith) c.at.ensures c.meet.ensures c.count.ensures l.invariant.4 w.if-k-count.false
-              w.table-is w.e-is,
-        )
+        omega (arith, w.e-is),
+        omega (arith, w.e-is),
+        omega arith,
+        c.if-k-count.auto.table ∙ l.invariant.3,
+        sweep_far _ _ _ _ _ _ _ _ _ (omega arith) c.at.ensures c.meet.ensures c.count.ensures l.invariant.4 w.if-k-count.false
+            w.table-is w.e-is,
+      )
     ]
 
 pub shape_of-table : goal.shape_of-table

@@ -1,6 +1,5 @@
 use mathlib.Core.Path.{refl}
 use native.Mathlib.Omega.{arith}
-use borrow.Author.Rules.{rules}
 use Rattle.runs.proofs.Admitted.{told_fine, call_sheet}
 use Rattle.runs.proofs.Calls.{call_stopped, call_ran}
 use Rattle.sheet_listing.proofs.listing.Goals as goal

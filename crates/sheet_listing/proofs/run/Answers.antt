@@ -1,4 +1,3 @@
-use borrow.Author.Rules.{rules}
 use Rattle.runs.proofs.Admitted.{call_sheet}
 use Rattle.sheet_listing.proofs.ByMethod.{run_room, by_sequential, by_maximal}
 use Rattle.sheet_listing.proofs.run.Goals as goal
