@@ -56,6 +56,13 @@ weight_of-weight-requires c =
       c.loop-j-test.true,
     )
 
+pub slice_bounds-put_line-end : goal.slice_bounds-put_line-end
+slice_bounds-put_line-end c =
+    let a = c.args in
+    let l = c.loop-j in
+    line_room a.sheet.now a.lines.now c.requires.0 l.out a.n l.at l.j l.invariant.0 c.requires.1 c.loop-j-test.true
+    c.rows_for-rows.result (c.rows_for-rows.ensures.0 ∙ ap rows_for (c.count.ensures ∙ ap size c.union_of-whole.ensures))
+
 pub put_line-requires : goal.put_line-requires
 put_line-requires c =
     let a = c.args in

@@ -25,7 +25,7 @@ loop-i-preserved c =
     let l = before5.loop-i in
     let k = c.put_row-left in
     rows_step before8.args.sheet.now _ l.out _ before8.args.n _ _ l.i l.invariant c.loop-i-test.true
-    k.ensures.0 k.ensures.1
+    k.ensures.out_after k.ensures.leaves
 
 pub shape_of-out : goal.shape_of-out
 shape_of-out c = c.loop-i.invariant.long ∙ sym c.requires.1
