@@ -18,11 +18,9 @@ put_cell-left-requires c =
 
 pub loop-i-preserved : goal.loop-i-preserved
 loop-i-preserved c =
-    let before5 = c in
-    let before8 = c in
-    let l = before5.loop-i in
+    let l = c.loop-i in
     let k = c.put_cell-left in
-    names_step before8.args.sheet.now _ l.out _ _ _ l.i l.invariant c.loop-i-test.true k.ensures.out_after
+    names_step c.args.sheet.now _ l.out _ _ _ l.i l.invariant c.loop-i-test.true k.ensures.out_after
     k.ensures.leaves
 
 pub shape_of-out : goal.shape_of-out
