@@ -83,15 +83,9 @@ unfolding cell
 cell_none s u out e o = o ∙ sym (ap (cell s) (none_left s u e))
 
 -- eight bytes of the sheet copied over the first eight columns
-pub cell_copied : (s out src copy : List ℕ) (a e : ℕ) → e ≡ a + 8 → e ≤ length s → out ≡ blanks 10 → src ≡ take (e - a) (drop a s)
-    → copy ≡ take (length src) src ++ drop (length src) (take (8 - 0) (drop 0 out)) → replaced out 0 8 copy ≡ eight_at s a ++ blanks 2
-cell_copied s out src copy a e z h o f g =
-    let eight : src ≡ eight_at s a = f ∙ ap (λ (n : ℕ). take n (drop a s)) (let n : e - a ≡ 8 = omega arith in n) in
-    let long : length src ≡ 8 = ap length eight ∙ (let n : length (eight_at s a) ≡ 8 = omega (arith, length-take 8 (drop a s), length-drop a s) in n) in
-    let whole : copy ≡ eight_at s a =
-    g ∙ ap (λ (l : List ℕ). l ++ drop (length src) (take 8 out)) (take-length src ∙ eight)
-    ∙ ap (λ (n : ℕ). eight_at s a ++ drop n (take 8 out)) long
-    ∙ ap (λ (l : List ℕ). eight_at s a ++ drop 8 (take 8 l)) o ∙ append-nil (eight_at s a) in
+pub cell_copied : (s out copy : List ℕ) (a e : ℕ) → e ≡ a + 8 → out ≡ blanks 10 → copy ≡ take (e - a) (drop a s) → replaced out 0 8 copy ≡ eight_at s a ++ blanks 2
+cell_copied s out copy a e z o f =
+    let whole : copy ≡ eight_at s a = f ∙ ap (λ (n : ℕ). take n (drop a s)) (let n : e - a ≡ 8 = omega arith in n) in
     ap (λ (l : List ℕ). replaced l 0 8 copy) o ∙ ap (λ (l : List ℕ). l ++ blanks 2) whole
 
 pub cell_named : (s : List ℕ) (q : ℕ) (Q R : List ℕ) → Q ≡ q ∷ R → name_of s q ++ blanks 2 ≡ cell s Q
@@ -107,13 +101,11 @@ cell_empty s out u N e o = (cell_none s u out e o, record { rest = none_left s u
 pub cell_filled : (s : List ℕ) (u q r a : ℕ) (N : Named s u) (some : eqb u 0 ≡ false) (e : q ≡ cond (eqb u 0) width (lowest u))
     (out copy : List ℕ) → a ≡ name_at s q
     → out ≡ blanks 10
-    → copy ≡ take (length (take (a + 8 - a) (drop a s))) (take (a + 8 - a) (drop a s))
-    ++ drop (length (take (a + 8 - a) (drop a s))) (take (8 - 0) (drop 0 out))
+    → copy ≡ take (a + 8 - a) (drop a s)
     → r ≡ Sets·out q u → (replaced out 0 8 copy ≡ cell s (parts_in s u)) × Leaves s u 1 r
 cell_filled s u q r a N some e out copy f o g h =
-    let next = next_part s u q N some e in
-    let high : a + 8 ≤ length s = omega (arith, f, next_below s u q N some e, N.long) in (
-      cell_copied s out (take (a + 8 - a) (drop a s)) copy a (a + 8) refl high o refl g ∙ ap (λ (x : ℕ). eight_at s x ++ blanks 2) f
+    let next = next_part s u q N some e in (
+      cell_copied s out copy a (a + 8) refl o g ∙ ap (λ (x : ℕ). eight_at s x ++ blanks 2) f
           ∙ cell_named s q (parts_in s u) (parts_in s (Sets·out q u)) next,
       record { rest = ap (parts_in s) h ∙ sym (ap (drop 1) next); named = subst (Named s) (sym h) (next_named s u q N some e) },
     )

@@ -16,21 +16,18 @@ use Rattle.page.proofs.admit.Goals as goal
 pub good_lines-requires : goal.good_lines-requires
 good_lines-requires c =
     let s = c.args.sheet.now in
-    let f = said_holds (check_sheet s) s _ _ (sym (ap sheet_says c.p-1.given.1) ∙ c.check.ensures) in
+    let f = said_holds (check_sheet s) s _ _ c.in-Fine.ensures in
     omega (arith, f.1, (narrow_count_lem _ (sheet_count s f.0)).1)
 
 pub returns-in-Faulty : goal.returns-in-Faulty
 returns-in-Faulty c =
-    let before6 = c in
-    let s = before6.args.sheet.now in
-    admit_stop s before6.args.lines.now _ _
-    (said_faulty (check_sheet s) s _ _ (sym (ap sheet_says c.n-1.given.1) ∙ c.check.ensures))
+    let s = c.args.sheet.now in
+    admit_stop s c.args.lines.now _ _
+    (said_faulty (check_sheet s) s _ _ c.in-Faulty.ensures)
 
 pub returns-in-Fine : goal.returns-in-Fine
 returns-in-Fine c =
-    let before5 = c in
-    let before8 = c in
-    let s = before8.args.sheet.now in
-    let b = before8.args.lines.now in
-    let f = said_holds (check_sheet s) s _ _ (sym (ap sheet_says c.p-1.given.1) ∙ before5.check.ensures) in
+    let s = c.args.sheet.now in
+    let b = c.args.lines.now in
+    let f = said_holds (check_sheet s) s _ _ c.in-Fine.ensures in
     admit_go s b _ f.0 (c.unless.ensures ∙ ap (λ (t : Bool). unless t 24 0) (c.good_lines.ensures ∙ ap (λ (n : ℕ). good_lines n b) f.1))

@@ -12,21 +12,17 @@ loop-j-init c = open_start (known c.args.p c.args.lines.now) c.args.n
 
 pub returns-then-not-subset : goal.returns-then-not-subset
 returns-then-not-subset c =
-    let before5 = c in
-    let before7 = c in
-    let a = before7.args in
+    let a = c.args in
     let l = c.loop-j in
-    let t = known_test a.lines.now a.p l.j _ _ _ before7.requires.0 before5.upto-parts.ensures c.union_of.ensures
+    let t = known_test a.lines.now a.p l.j _ _ _ c.requires.0 c.upto-parts.ensures c.union_of.ensures
     c.subset.ensures in
     open_stop (known a.p a.lines.now) a.n l.j c.loop-j-test.true l.invariant (sym t ∙ c.if-not-subset.true)
 
 pub loop-j-preserved : goal.loop-j-preserved
 loop-j-preserved c =
-    let before5 = c in
-    let before7 = c in
-    let a = before7.args in
+    let a = c.args in
     let l = c.loop-j in
-    let t = known_test a.lines.now a.p l.j _ _ _ before7.requires.0 before5.upto-parts.ensures c.union_of.ensures
+    let t = known_test a.lines.now a.p l.j _ _ _ c.requires.0 c.upto-parts.ensures c.union_of.ensures
     c.subset.ensures in
     open_go (known a.p a.lines.now) a.n l.j c.loop-j-test.true l.invariant (sym t ∙ c.if-not-subset.false)
 

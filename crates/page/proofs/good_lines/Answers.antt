@@ -10,13 +10,11 @@ returns-then-not-is_whole c =
 
 pub returns-then-n-gt999999 : goal.returns-then-n-gt999999
 returns-then-n-gt999999 c =
-    let before5 = c in
-    good_many before5.args.p before5.args.lines.now _ c.is_whole.ensures (c.if-not-is_whole.false) _
+    good_many c.args.p c.args.lines.now _ c.is_whole.ensures (c.if-not-is_whole.false) _
     c.line_count-n.ensures c.if-n-gt999999.true
 
 pub returns : goal.returns
 returns c =
-    let before6 = c in
-    good_known before6.args.p before6.args.lines.now _ c.is_whole.ensures
+    good_known c.args.p c.args.lines.now _ c.is_whole.ensures
     (c.if-not-is_whole.false) _ c.line_count-n.ensures _ (omega (arith, c.if-n-gt999999.false))
     c.all_known.ensures

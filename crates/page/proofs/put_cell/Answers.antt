@@ -7,30 +7,22 @@ use Rattle.page.proofs.put_cell.Goals as goal
 
 pub returns-then-is_empty : goal.returns-then-is_empty
 returns-then-is_empty c =
-    let before8 = c in
-    cell_empty before8.args.sheet.now _ _ before8.requires.0 (sym c.is_empty.ensures ∙ c.if-is_empty.true)
-    (c.blank.ensures ∙ ap blanks before8.requires.1)
+    let e = cell_empty c.args.sheet.now _ _ c.requires.0 (sym c.is_empty.ensures ∙ c.if-is_empty.true) (c.blank.ensures ∙ ap blanks c.requires.1) in
+    record { out_after = e.0; leaves = e.1 }
 
 pub name_at-a-requires : goal.name_at-a-requires
 name_at-a-requires c =
-    let before9 = c in
-    let N = before9.requires.0 in
-    omega (
-      arith,
-      N.narrow,
-      next_below before9.args.sheet.now _ c.lowest-q.result N (sym c.is_empty.ensures ∙ c.if-is_empty.false)
-          c.lowest-q.ensures,
-    )
+    let N = c.requires.0 in
+    omega (arith, N.narrow, next_below c.args.sheet.now _ c.lowest-q.result N (sym c.is_empty.ensures ∙ c.if-is_empty.false) c.lowest-q.ensures)
+
+pub slice_bounds-copy_from_slice-end-2 : goal.slice_bounds-copy_from_slice-end-2
+slice_bounds-copy_from_slice-end-2 c =
+    let N = c.requires.0 in
+    let below = next_below c.args.sheet.now _ c.lowest-q.result N (sym c.is_empty.ensures ∙ c.if-is_empty.false) c.lowest-q.ensures in
+    omega (arith, N.long, c.name_at-a.ensures.0, below)
 
 pub returns : goal.returns
 returns c =
-    let before6 = c in
-    let before7 = c in
-    let before8 = c in
-    let before9 = c in
-    let before12 = c in
-    let before16 = c in
-    cell_filled before16.args.sheet.now _ before7.lowest-q.result _ before6.name_at-a.result before16.requires.0
-    (sym before9.is_empty.ensures ∙ before8.if-is_empty.false) before7.lowest-q.ensures
-    _ _ before6.name_at-a.ensures.0 (before12.blank.ensures ∙ ap blanks before16.requires.1) c.copy.ensures.1
-    c.without.ensures
+    let e = cell_filled c.args.sheet.now _ c.lowest-q.result _ c.name_at-a.result c.requires.0 (sym c.is_empty.ensures ∙ c.if-is_empty.false) c.lowest-q.ensures
+    c.blank.new.out c.copy_from_slice.new.self c.name_at-a.ensures.0 (c.blank.ensures ∙ ap blanks c.requires.1) c.copy_from_slice.ensures.after c.without.ensures in
+    record { out_after = e.0; leaves = e.1 }

@@ -18,12 +18,10 @@ put_cell-left-requires c =
 
 pub loop-i-preserved : goal.loop-i-preserved
 loop-i-preserved c =
-    let before5 = c in
-    let before8 = c in
-    let l = before5.loop-i in
+    let l = c.loop-i in
     let k = c.put_cell-left in
-    names_step before8.args.sheet.now _ l.out _ _ _ l.i l.invariant c.loop-i-test.true k.ensures.0
-    k.ensures.1
+    names_step c.args.sheet.now _ l.out _ _ _ l.i l.invariant c.loop-i-test.true k.ensures.out_after
+    k.ensures.leaves
 
 pub shape_of-out : goal.shape_of-out
 shape_of-out c = c.loop-i.invariant.long ∙ sym c.requires.1
@@ -31,4 +29,5 @@ shape_of-out c = c.loop-i.invariant.long ∙ sym c.requires.1
 pub returns : goal.returns
 returns c =
     let l = c.loop-i in
-    names_end c.args.sheet.now l.out _ _ l.i l.invariant (omega arith)
+    let e = names_end c.args.sheet.now l.out _ _ l.i l.invariant (omega arith) in
+    record { out_after = e.0; leaves = e.1 }

@@ -18,7 +18,5 @@ bounds-out-4 c = simp length-set (omega arith)
 
 pub returns : goal.returns
 returns c =
-    let before5 = c in
-    let before7 = c in
-    six_put before7.args.out.now before7.args.n _ _ _ _ _ _ before5.column.ensures c.column-2.ensures
+    six_put c.args.out.now c.args.n _ _ _ _ _ _ c.column.ensures c.column-2.ensures
     c.column-3.ensures c.column-4.ensures c.column-5.ensures c.column-6.ensures

@@ -22,8 +22,7 @@ loop-j-init c = (
 
 pub union_of-whole-requires : goal.union_of-whole-requires
 union_of-whole-requires c =
-    let before5 = c in
-    omega (arith, page_few before5.args.sheet.now before5.args.lines.now before5.requires.0, before5.requires.1, c.loop-j-test.true)
+    omega (arith, page_few c.args.sheet.now c.args.lines.now c.requires.0, c.requires.1, c.loop-j-test.true)
 
 pub rows_for-rows-requires : goal.rows_for-rows-requires
 rows_for-rows-requires c = omega (arith, c.count.ensures, size_le width _ (held c.union_of-whole.result c.union_of-whole.type_inv))
@@ -33,9 +32,8 @@ overflow_mul-end c = record { fits = omega (arith, c.rows_for-rows.ensures.1) }
 
 pub overflow_add-end : goal.overflow_add-end
 overflow_add-end c =
-    let before8 = c in
-    let a = before8.args in
-    let p = before8.requires in
+    let a = c.args in
+    let p = c.requires in
     let l = c.loop-j in
     record {
       fits = omega (
@@ -48,13 +46,19 @@ overflow_add-end c =
 
 pub weight_of-weight-requires : goal.weight_of-weight-requires
 weight_of-weight-requires c =
-    let before8 = c in
     omega (
       arith,
-      page_few before8.args.sheet.now before8.args.lines.now before8.requires.0,
-      before8.requires.1,
+      page_few c.args.sheet.now c.args.lines.now c.requires.0,
+      c.requires.1,
       c.loop-j-test.true,
     )
+
+pub slice_bounds-put_line-end : goal.slice_bounds-put_line-end
+slice_bounds-put_line-end c =
+    let a = c.args in
+    let l = c.loop-j in
+    line_room a.sheet.now a.lines.now c.requires.0 l.out a.n l.at l.j l.invariant.0 c.requires.1 c.loop-j-test.true
+    c.rows_for-rows.result (c.rows_for-rows.ensures.0 ∙ ap rows_for (c.count.ensures ∙ ap size c.union_of-whole.ensures))
 
 pub put_line-requires : goal.put_line-requires
 put_line-requires c =
@@ -96,6 +100,5 @@ shape_of-out c = c.loop-j.invariant.1
 
 pub returns : goal.returns
 returns c =
-    let before5 = c in
     let l = c.loop-j in
-    lines_end before5.args.sheet.now before5.args.lines.now l.out before5.args.n l.at l.j l.invariant.0 (omega arith)
+    lines_end c.args.sheet.now c.args.lines.now l.out c.args.n l.at l.j l.invariant.0 (omega arith)

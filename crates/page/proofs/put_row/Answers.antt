@@ -19,4 +19,4 @@ returns c =
     let s = a.sheet.now in
     let front = c.blank.ensures ∙ ap blanks (part_length a.out.now 0 12 12 refl (omega (arith, p.1))) in
     let names = c.put_names-left.ensures in
-    record { out_after = row_put s p.0.long (parts_in s _) a.out.now _ _ (parts_listed s _) p.1 front names.0; leaves = names.1 }
+    record { out_after = row_put s p.0.long (parts_in s _) a.out.now _ _ (parts_listed s _) p.1 front names.out_after; leaves = names.leaves }

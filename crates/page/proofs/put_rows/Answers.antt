@@ -20,12 +20,10 @@ put_row-left-requires c =
 
 pub loop-i-preserved : goal.loop-i-preserved
 loop-i-preserved c =
-    let before5 = c in
-    let before8 = c in
-    let l = before5.loop-i in
+    let l = c.loop-i in
     let k = c.put_row-left in
-    rows_step before8.args.sheet.now _ l.out _ before8.args.n _ _ l.i l.invariant c.loop-i-test.true
-    k.ensures.0 k.ensures.1
+    rows_step c.args.sheet.now _ l.out _ c.args.n _ _ l.i l.invariant c.loop-i-test.true
+    k.ensures.out_after k.ensures.leaves
 
 pub shape_of-out : goal.shape_of-out
 shape_of-out c = c.loop-i.invariant.long ∙ sym c.requires.1

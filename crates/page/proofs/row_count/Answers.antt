@@ -17,9 +17,8 @@ rows_for-rows-requires c = omega (arith, c.count.ensures, size_le width _ (held 
 
 pub loop-j-preserved : goal.loop-j-preserved
 loop-j-preserved c =
-    let before6 = c in
     let l = c.loop-j in
-    counted_more before6.args.lines.now before6.args.n l.rows _ c.count.result l.j l.invariant
+    counted_more c.args.lines.now c.args.n l.rows _ c.count.result l.j l.invariant
     c.loop-j-test.true (c.count.ensures ∙ ap size c.union_of.ensures) c.rows_for-rows.ensures.0
     c.rows_for-rows.ensures.1
 

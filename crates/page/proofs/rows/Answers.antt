@@ -8,18 +8,15 @@ use Rattle.page.proofs.rows.Goals as goal
 
 pub returns-in-Stop : goal.returns-in-Stop
 returns-in-Stop c =
-    let before6 = c in
-    rows_refused before6.args.sheet.now before6.args.lines.now _ _
-    (sym c.admit.ensures ∙ ap verdict c.n-1.given.1)
+    rows_refused c.args.sheet.now c.args.lines.now _ _
+    (sym c.in-Stop.ensures)
 
 pub row_count-requires : goal.row_count-requires
 row_count-requires c =
-    let before6 = c in
-    let ok = sym c.admit.ensures ∙ ap verdict c.enum_told-1.given.1 in
-    omega (arith, page_few before6.args.sheet.now before6.args.lines.now ok, c.line_count.ensures)
+    let ok = sym c.admit.ensures ∙ ap verdict c.in_default.is in
+    omega (arith, page_few c.args.sheet.now c.args.lines.now ok, c.line_count.ensures)
 
 pub returns : goal.returns
 returns c =
-    let before7 = c in
-    let ok = sym c.admit.ensures ∙ ap verdict c.enum_told-1.given.1 in
-    rows_counted before7.args.sheet.now before7.args.lines.now _ _ ok c.line_count.ensures c.row_count.ensures.0
+    let ok = sym c.admit.ensures ∙ ap verdict c.in_default.is in
+    rows_counted c.args.sheet.now c.args.lines.now _ _ ok c.line_count.ensures c.row_count.ensures.0

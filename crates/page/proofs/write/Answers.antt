@@ -10,42 +10,37 @@ use Rattle.page.proofs.write.Goals as goal
 
 pub returns-in-Stop : goal.returns-in-Stop
 returns-in-Stop c =
-    let before7 = c in
-    page_refused before7.args.sheet.now before7.args.lines.now _ _ _
-    (sym c.admit.ensures ∙ ap verdict c.n-1.given.1)
+    page_refused c.args.sheet.now c.args.lines.now _ _ _
+    (sym c.in-Stop.ensures)
 
 pub row_count-count-requires : goal.row_count-count-requires
 row_count-count-requires c =
     let s = c.args.sheet.now in
     let b = c.args.lines.now in
-    let ok = sym c.admit.ensures ∙ ap verdict c.enum_told-1.given.1 in
+    let ok = sym c.admit.ensures ∙ ap verdict c.in_default.is in
     omega (arith, page_few s b ok, c.line_count-n.ensures)
 
 pub overflow_mul-end : goal.overflow_mul-end
 overflow_mul-end c =
     let s = c.args.sheet.now in
     let b = c.args.lines.now in
-    let ok = sym c.admit.ensures ∙ ap verdict c.enum_told-1.given.1 in
+    let ok = sym c.admit.ensures ∙ ap verdict c.in_default.is in
     record { fits = omega (arith, page_few s b ok, c.line_count-n.ensures, c.row_count-count.ensures.1) }
 
 pub returns-then-out-end : goal.returns-then-out-end
 returns-then-out-end c =
-    let before5 = c in
-    let before9 = c in
-    let s = before9.args.sheet.now in
-    let b = before9.args.lines.now in
-    let ok = sym before5.admit.ensures ∙ ap verdict c.enum_told-1.given.1 in
-    page_short s b before9.args.out.now c.row_count-count.result _ ok c.line_count-n.ensures c.row_count-count.ensures.0
+    let s = c.args.sheet.now in
+    let b = c.args.lines.now in
+    let ok = sym c.admit.ensures ∙ ap verdict c.in_default.is in
+    page_short s b c.args.out.now c.row_count-count.result _ ok c.line_count-n.ensures c.row_count-count.ensures.0
     c.if-out-end.true
 
 pub put_page-requires : goal.put_page-requires
 put_page-requires c =
-    let before6 = c in
-    let before10 = c in
-    let s = before10.args.sheet.now in
-    let b = before10.args.lines.now in
-    let ok = sym before6.admit.ensures ∙ ap verdict c.enum_told-1.given.1 in
-    let long = count_bytes s b before10.args.out.now c.row_count-count.result _ ok c.line_count-n.ensures
+    let s = c.args.sheet.now in
+    let b = c.args.lines.now in
+    let ok = sym c.admit.ensures ∙ ap verdict c.in_default.is in
+    let long = count_bytes s b c.args.out.now c.row_count-count.result _ ok c.line_count-n.ensures
     c.row_count-count.ensures.0 in (
       ok,
       c.line_count-n.ensures,
@@ -55,13 +50,8 @@ put_page-requires c =
 
 pub returns : goal.returns
 returns c =
-    let before5 = c in
-    let before6 = c in
-    let before7 = c in
-    let before9 = c in
-    let before13 = c in
-    let s = before13.args.sheet.now in
-    let b = before13.args.lines.now in
-    let ok = sym before9.admit.ensures ∙ ap verdict before7.enum_told-1.given.1 in
-    page_written s b before13.args.out.now before5.row_count-count.result _ ok before6.line_count-n.ensures before5.row_count-count.ensures.0 _ _
+    let s = c.args.sheet.now in
+    let b = c.args.lines.now in
+    let ok = sym c.admit.ensures ∙ ap verdict c.in_default.is in
+    page_written s b c.args.out.now c.row_count-count.result _ ok c.line_count-n.ensures c.row_count-count.ensures.0 _ _
     (omega (arith, c.if-out-end.false)) c.put_page.ensures refl

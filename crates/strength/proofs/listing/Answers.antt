@@ -4,12 +4,12 @@ use Rattle.strong_checks.proofs.Calls.{ran_passed, strength_stopped, strength_ra
 use Rattle.strength.proofs.listing.Goals as goal
 
 pub run-answer-requires : goal.run-answer-requires
-run-answer-requires c = ran_passed _ _ _ _ _ _ _ c.level-ok.ensures c.admit.ensures _ _ c.p-1.given.1
+run-answer-requires c = ran_passed _ _ _ _ _ _ _ c.level-ok.ensures c.admit.ensures _ _ c.in-Fine.is
 
 pub returns-in-Faulty : goal.returns-in-Faulty
-returns-in-Faulty c = strength_stopped _ _ _ _ _ c.args.out.now _ _ _ c.level-ok.ensures c.admit.ensures _ _ c.n-1.given.1 refl
+returns-in-Faulty c = strength_stopped _ _ _ _ _ c.args.out.now _ _ _ c.level-ok.ensures c.admit.ensures _ _ c.in-Faulty.is refl
 
 pub returns-in-Fine : goal.returns-in-Fine
 returns-in-Fine c =
-    let k = c.run-answer.auto.1.1.1.1.1 in
-    strength_ran _ _ _ _ _ c.args.out.now _ _ _ c.level-ok.ensures c.admit.ensures _ _ c.p-1.given.1 _ _ _ _ _ c.run-answer.ensures c.clear_list.ensures k.0 k.1.0 c.clear.ensures k.1.1.0 k.1.1.1.0 k.1.1.1.1.0 k.1.1.1.1.1.0
+    let k = c.run-answer.auto in
+    strength_ran _ _ _ _ _ c.args.out.now _ _ _ c.level-ok.ensures c.admit.ensures _ _ c.in-Fine.is _ _ _ _ _ c.run-answer.ensures c.clear_list.ensures k.cliques k.products c.clear.ensures k.sets k.entries k.smallest k.unions

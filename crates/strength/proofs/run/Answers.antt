@@ -30,10 +30,10 @@ is_sure-sure-requires c =
 
 pub list-requires : goal.list-requires
 list-requires c =
-    (level_tables _ _ (strength_level _ _ _ _ c.requires.0), omega (arith, c.if-room-n.false, c.score_cliques.auto.1.1.1.0), c.score_cliques.ensures)
+    (level_tables _ _ (strength_level _ _ _ _ c.requires.0), omega (arith, c.if-room-n.false, c.score_cliques.auto.products), c.score_cliques.ensures)
 
 pub shape_of-cliques : goal.shape_of-cliques
-shape_of-cliques c = c.store_cliques-n.auto.1.0
+shape_of-cliques c = c.store_cliques-n.auto.cliques
 
 pub returns : goal.returns
 returns c =

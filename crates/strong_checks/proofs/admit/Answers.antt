@@ -8,17 +8,14 @@ use Rattle.strong_checks.proofs.admit.Goals as goal
 
 pub returns-in-Stop : goal.returns-in-Stop
 returns-in-Stop c =
-    let before5 = c in
-    let before7 = c in
     say_faulty _ _ _ _ (strength_after _ _ _ _ _ c.check_numbers.ensures
-    (told_fine _ _ _ before7.check.ensures _ _ before5.p-1.given.1).0 ∙ ap verdict c.n-in-Stop-1.given.1)
+    (told_fine _ _ _ c.check.ensures _ _ c.in-Fine.is).0 ∙ ap verdict c.in-Stop.is)
 
 pub returns-in-Faulty : goal.returns-in-Faulty
-returns-in-Faulty c = say_faulty _ _ _ _ (strength_faulty _ _ _ _ _ _ (told_faulty _ _ _ c.check.ensures _ _ c.n-1.given.1))
+returns-in-Faulty c = say_faulty _ _ _ _ (strength_faulty _ _ _ _ _ _ (told_faulty _ _ _ c.check.ensures _ _ c.in-Faulty.is))
 
 pub returns-in_default : goal.returns-in_default
 returns-in_default c =
-    let before6 = c in
-    let f = told_fine _ _ _ before6.check.ensures _ _ c.p-1.given.1 in
+    let f = told_fine _ _ _ c.check.ensures _ _ c.in-Fine.is in
     say_holds _ _ _ _ (strength_after _ _ _ _ _ c.check_numbers.ensures
-    (told_fine _ _ _ before6.check.ensures _ _ c.p-1.given.1).0 ∙ ap verdict c.enum_told-1.given.1) f.1 f.2
+    f.0 ∙ ap verdict c.in_default.is) f.1 f.2

@@ -4,7 +4,7 @@ use Rattle.strong_checks.proofs.Sure.{bearing_weakest, bearing_product}
 use Rattle.strong_checks.proofs.bearing.Goals as goal
 
 pub returns-in-Weakest : goal.returns-in-Weakest
-returns-in-Weakest c = (bearing_weakest _ _ c.heavy.result _ c.measure-1.given.1 c.heavy.ensures.0, c.heavy.ensures.1)
+returns-in-Weakest c = (bearing_weakest _ _ c.heavy.result _ c.in-Weakest.is c.heavy.ensures.0, c.heavy.ensures.1)
 
 pub returns-in-Product : goal.returns-in-Product
-returns-in-Product c = (bearing_product _ _ _ c.requires.1 _ c.enum_told-1.given.1, omega arith)
+returns-in-Product c = (bearing_product _ _ _ c.requires.1 _ c.in-Product.is, omega arith)

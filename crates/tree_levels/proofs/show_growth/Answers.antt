@@ -12,15 +12,14 @@ loop-r-init c = (omega arith, refl, growth_none _ _ _ _ _)
 
 pub loop-r-preserved-then-is_root : goal.loop-r-preserved-then-is_root
 loop-r-preserved-then-is_root c =
-    let t = c in
-    let l = t.loop-r in
-    let a = t.args in
+    let l = c.loop-r in
+    let a = c.args in
     let ms = a.smallest.now in
     let p = c.put_whole in (
       omega arith,
       p.auto.out ∙ l.invariant.1,
       growth_yes a.entries.now ms a.unions.now a.out.now l.out a.n l.r l.invariant.2 _ _ _
-          (sym t.is_root.ensures ∙ t.if-is_root.true) (c.note_at-line.ensures ∙ ap (number_at ms) (add-one l.r))
+          (sym c.is_root.ensures ∙ c.if-is_root.true) (c.note_at-line.ensures ∙ ap (number_at ms) (add-one l.r))
           c.at.ensures (λ f u X rest e k. p.ensures f u X rest e k),
     )
 

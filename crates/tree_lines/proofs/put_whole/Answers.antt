@@ -29,9 +29,8 @@ overflow_add-m c =
 
 pub returns : goal.returns
 returns c f u X rest e l =
-    let b = c in
-    let a = b.args in
-    let h = has_line_lem _ _ _ (sym b.has_line.ensures ∙ b.if-not-has_line.false) in
+    let a = c.args in
+    let h = has_line_lem _ _ _ (sym c.has_line.ensures ∙ c.if-not-has_line.false) in
     let size = c.line_length.ensures in
     whole_written f u X rest a.out.now a.n a.m e l _ h.0 h.1
     (ap₂ (λ (k z : ℕ). (a.m - 1) * k + z) size c.whole_place.ensures) (num a.whole) _
