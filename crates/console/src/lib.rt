@@ -12,8 +12,8 @@ pub use args::{arg, arg_count};
 pub use load::{last_file, read, read_on};
 pub use refusal::{few_slots, refused, tell, tell_long};
 pub use say::{
-    STDERR, STDIN, STDOUT, counted, end, error, error_field, error_of, fail, fail_as, field, number, put, put_out,
-    text,
+    STDERR, STDIN, STDOUT, counted, end, error, error_field, error_of, fail, fail_as, field,
+    number, put, put_out, text,
 };
 pub use scan::find;
 

@@ -1,4 +1,3 @@
-use borrow.Author.Rules.{rules}
 use Rattle.families_c.proofs.Meetings.{mean_shown_lem}
 use Rattle.families_c.proofs.families_family_mean.Goals as goal
 

@@ -1,4 +1,3 @@
-use borrow.Author.Rules.{rules}
 use Rattle.runs.specs.OnSheet.{count_for}
 use Rattle.families_c.proofs.families_listing_maximal.Goals as goal
 

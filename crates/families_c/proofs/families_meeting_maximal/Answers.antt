@@ -1,5 +1,4 @@
 use Rattle.families_c.proofs.Meetings.{meets_shown}
-use borrow.Author.Rules.{rules}
 use Rattle.families_c.proofs.families_meeting_maximal.Goals as goal
 
 pub returns : goal.returns

@@ -1,6 +1,5 @@
 use mathlib.Core.Path.{ap, ◌∙◌}
 use Rattle.outcomes.specs.Outcomes.{sheet_shown}
-use borrow.Author.Rules.{rules}
 use Rattle.families_c.proofs.families_read.Goals as goal
 
 pub returns : goal.returns

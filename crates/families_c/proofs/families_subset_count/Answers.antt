@@ -1,6 +1,5 @@
 use mathlib.Core.Path.{ap, ◌∙◌}
 use Rattle.outcomes.specs.Outcomes.{outcome}
-use borrow.Author.Rules.{rules}
 use Rattle.families_c.proofs.families_subset_count.Goals as goal
 
 pub returns : goal.returns

@@ -23,20 +23,18 @@ overflow_add-links c =
 
 pub loop-from-preserved-then-is_counted : goal.loop-from-preserved-then-is_counted
 loop-from-preserved-then-is_counted c =
-    let a = c in
     let l = c.loop-from in
     let r = c.link-l in (
       omega arith,
-      adding_yes _ a.args.sheet.now l.from _ _ (omega (arith, c.loop-from-test.true, a.requires.1)) l.invariant.1
+      adding_yes _ c.args.sheet.now l.from _ _ (omega (arith, c.loop-from-test.true, c.requires.1)) l.invariant.1
           (counts_ends _ _ _ _ _ _ _ r.ensures.0 c.is_counted.ensures c.if-is_counted.true) _ (ap (λ (x : Link). x.weight) r.ensures.0) r.ensures.1.1.1,
     )
 
 pub loop-from-preserved : goal.loop-from-preserved
 loop-from-preserved c =
-    let a = c in
     let l = c.loop-from in (
       omega arith,
-      adding_no _ a.args.sheet.now l.from _ _ (omega (arith, c.loop-from-test.true, a.requires.1)) l.invariant.1
+      adding_no _ c.args.sheet.now l.from _ _ (omega (arith, c.loop-from-test.true, c.requires.1)) l.invariant.1
           (counts_ends _ _ _ _ _ _ _ c.link-l.ensures.0 c.is_counted.ensures c.if-is_counted.false),
     )
 

@@ -6,7 +6,7 @@ pub returns-then-met-ne0 : goal.returns-then-met-ne0
 returns-then-met-ne0 c = λ L p st one sa sb. met_kept _ _ c.if-met-ne0.true
 
 pub returns-then-joined_in : goal.returns-then-joined_in
-returns-then-joined_in c = let j = c in λ L p st one sa sb. met_now _ _ _ j.if-met-ne0.false (sym (j.joined_in.ensures L p st one sa sb) ∙ c.if-joined_in.true)
+returns-then-joined_in c = λ L p st one sa sb. met_now _ _ _ c.if-met-ne0.false (sym (c.joined_in.ensures L p st one sa sb) ∙ c.if-joined_in.true)
 
 pub returns : goal.returns
-returns c = let j = c in λ L p st one sa sb. met_not _ _ _ j.if-met-ne0.false (sym (j.joined_in.ensures L p st one sa sb) ∙ c.if-joined_in.false)
+returns c = λ L p st one sa sb. met_not _ _ _ c.if-met-ne0.false (sym (c.joined_in.ensures L p st one sa sb) ∙ c.if-joined_in.false)

@@ -11,13 +11,13 @@ pub loop-n-init : goal.loop-n-init
 loop-n-init c = (omega arith, refl, counted_none _ _ _ _ _ _ _ _ refl refl)
 
 pub link-l-requires : goal.link-l-requires
-link-l-requires c = let a = c in omega (arith, c.loop-n-test.true, a.requires.2)
+link-l-requires c = omega (arith, c.loop-n-test.true, c.requires.2)
 
 pub overflow_cast-w : goal.overflow_cast-w
 overflow_cast-w c = omega (arith, c.link-l.ensures.1.1.1)
 
 pub heavy-end-requires : goal.heavy-end-requires
-heavy-end-requires c = let a = c in (a.requires.0, a.requires.2)
+heavy-end-requires c = (c.requires.0, c.requires.2)
 
 pub take_level-found-requires : goal.take_level-found-requires
 take_level-found-requires c =
@@ -28,7 +28,7 @@ take_level-found-requires c =
     (a.requires.0, a.requires.1, omega (arith, c.heavy-end.ensures.1, a.requires.2), omega (arith, r, e.1), omega (arith, r, e.0, a.requires.4, rows_length l.loop-n.sets a.args.sets.now l.loop-n.invariant.1))
 
 pub shape_of-sets-then-room-found : goal.shape_of-sets-then-room-found
-shape_of-sets-then-room-found c = let t = c in t.take_level-found.auto.sets ∙ t.loop-n.invariant.1
+shape_of-sets-then-room-found c = c.take_level-found.auto.sets ∙ c.loop-n.invariant.1
 
 pub returns-then-room-found : goal.returns-then-room-found
 returns-then-room-found c =

@@ -3,5 +3,4 @@ use Rattle.overlaps.proofs.swap.Goals as goal
 
 pub returns : goal.returns
 returns c =
-    let b = c in
-    swap_is _ _ _ _ _ _ _ b.at-s.ensures b.at-t.ensures b.put.ensures c.put-2.ensures
+    swap_is _ _ _ _ _ _ _ c.at-s.ensures c.at-t.ensures c.put.ensures c.put-2.ensures

@@ -1,16 +1,14 @@
-use mathlib.Core.Path.{sym, ap, ◌∙◌}
+use mathlib.Core.Path.{ap, ◌∙◌}
 use native.Mathlib.Omega.{arith}
 use mathlib.Core.Bool.{Bool}
 use Prim.Native.Nat.{ℕ}
 use Rattle.answers.specs.Verdict.{unless}
 use Rattle.percolation.proofs.Ranges.{narrow_count_lem}
 use Rattle.sheet.specs.Sheet.{check_sheet}
-use Rattle.sheet.specs.Answers.{sheet_says}
 use Rattle.sheet.proofs.Said.{said_faulty, said_holds}
 use Rattle.sheet.proofs.Sound.{sheet_count}
 use Rattle.page.specs.Page.{good_lines}
 use Rattle.page.proofs.Answered.{admit_stop, admit_go}
-use borrow.Author.Rules.{rules}
 use Rattle.page.proofs.admit.Goals as goal
 
 pub good_lines-requires : goal.good_lines-requires

@@ -1,8 +1,8 @@
-use mathlib.Core.Path.{◌≡◌, refl, ◌∙◌}
+use mathlib.Core.Path.{refl, ◌∙◌}
 use native.Mathlib.Omega.{arith}
-use Prim.Native.Nat.{◌-◌, ◌≤◌, ◌<◌}
+use Prim.Native.Nat.{◌<◌}
 use lib.ListN.{length, length-set}
-use Rattle.page.proofs.Columns.{Blank, blank_more, blank_all}
+use Rattle.page.proofs.Columns.{blank_more, blank_all}
 use Rattle.page.proofs.blank.Goals as goal
 
 pub loop-i-init : goal.loop-i-init

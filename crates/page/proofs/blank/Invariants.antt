@@ -1,8 +1,7 @@
-use mathlib.Core.Path.{◌≡◌, refl, ◌∙◌}
-use native.Mathlib.Omega.{arith}
-use Prim.Native.Nat.{◌-◌, ◌≤◌, ◌<◌}
-use lib.ListN.{length, length-set}
-use Rattle.page.proofs.Columns.{Blank, blank_more, blank_all}
+use mathlib.Core.Path.{◌≡◌}
+use Prim.Native.Nat.{◌-◌, ◌≤◌}
+use lib.ListN.{length}
+use Rattle.page.proofs.Columns.{Blank}
 use Rattle.page.proofs.blank.Given as goal
 
 abbrev pub invariant-loop-i : goal.invariant-loop-i

@@ -1,6 +1,5 @@
 use native.Mathlib.Omega.{arith}
 use Rattle.page.proofs.Columns.{column_reached, column_one, column_blank}
-use borrow.Author.Rules.{rules}
 use Rattle.page.proofs.column.Goals as goal
 
 pub returns-then-unit-n : goal.returns-then-unit-n

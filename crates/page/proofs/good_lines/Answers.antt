@@ -1,7 +1,5 @@
 use native.Mathlib.Omega.{arith}
-use borrow.Author.Tests.{not-true, not-false}
 use Rattle.page.proofs.Counts.{good_broken, good_many, good_known}
-use borrow.Author.Rules.{rules}
 use Rattle.page.proofs.good_lines.Goals as goal
 
 pub returns-then-not-is_whole : goal.returns-then-not-is_whole

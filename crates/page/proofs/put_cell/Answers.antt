@@ -2,7 +2,6 @@ use mathlib.Core.Path.{sym, ap, ◌∙◌}
 use native.Mathlib.Omega.{arith}
 use Rattle.page.specs.Page.{blanks}
 use Rattle.page.proofs.Names.{next_below, cell_empty, cell_filled}
-use borrow.Author.Rules.{rules}
 use Rattle.page.proofs.put_cell.Goals as goal
 
 pub returns-then-is_empty : goal.returns-then-is_empty

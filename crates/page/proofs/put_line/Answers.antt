@@ -1,6 +1,5 @@
 use Rattle.page.specs.Model.{parts_in}
 use Rattle.page.proofs.Sizes.{line_put}
-use borrow.Author.Rules.{rules}
 use Rattle.page.proofs.put_line.Goals as goal
 
 pub returns : goal.returns

@@ -1,11 +1,8 @@
-use borrow.Author.Rules.{rules}
 use mathlib.Core.Path.{refl, sym, ◌∙◌}
 use native.Mathlib.Omega.{arith}
-use Prim.Native.Nat.{◌+◌, ◌-◌, ◌*◌}
-use Rattle.sets.specs.Value.{num}
-use Rattle.page.specs.Model.{parts_in}
+use Prim.Native.Nat.{◌+◌, ◌*◌}
 use Rattle.page.proofs.Filling.{part_length}
-use Rattle.page.proofs.Steps.{NamesTo, names_start, names_step, names_end}
+use Rattle.page.proofs.Steps.{names_start, names_step, names_end}
 use Rattle.page.proofs.put_names.Goals as goal
 
 pub loop-i-init : goal.loop-i-init

@@ -1,11 +1,7 @@
-use borrow.Author.Rules.{rules}
-use mathlib.Core.Path.{refl, sym, ◌∙◌}
-use native.Mathlib.Omega.{arith}
-use Prim.Native.Nat.{◌+◌, ◌-◌, ◌*◌}
+use Prim.Native.Nat.{◌-◌}
 use Rattle.sets.specs.Value.{num}
 use Rattle.page.specs.Model.{parts_in}
-use Rattle.page.proofs.Filling.{part_length}
-use Rattle.page.proofs.Steps.{NamesTo, names_start, names_step, names_end}
+use Rattle.page.proofs.Steps.{NamesTo}
 use Rattle.page.proofs.put_names.Given as goal
 
 abbrev pub invariant-loop-i : goal.invariant-loop-i

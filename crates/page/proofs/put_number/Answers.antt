@@ -1,7 +1,6 @@
 use native.Mathlib.Omega.{arith}
 use lib.ListN.{length-set}
 use Rattle.page.proofs.Columns.{six_put}
-use borrow.Author.Rules.{rules}
 use Rattle.page.proofs.put_number.Goals as goal
 
 pub bounds-out-1 : goal.bounds-out-1

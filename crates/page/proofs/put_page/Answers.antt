@@ -1,8 +1,6 @@
-use borrow.Author.Rules.{rules}
-use mathlib.Core.Path.{◌≡◌, refl, ap, ◌∙◌}
+use mathlib.Core.Path.{refl, ap, ◌∙◌}
 use native.Mathlib.Omega.{arith}
-use Prim.Native.Nat.{◌+◌, ◌-◌, ◌*◌}
-use lib.ListN.{length}
+use Prim.Native.Nat.{◌+◌, ◌*◌}
 use Rattle.sets.specs.Sets.{size}
 use Rattle.sets.specs.Value.{width}
 use Rattle.sets.proofs.Laws.{size_le}
@@ -10,7 +8,7 @@ use Rattle.sets.proofs.Held.{held}
 use Rattle.page.specs.Page.{rows_for}
 use Rattle.page.proofs.Filling.{part_length}
 use Rattle.page.proofs.PageRows.{page_few}
-use Rattle.page.proofs.Steps.{LinesTo, lines_start, line_named, line_rows_lem, line_room, line_same, lines_step, lines_end}
+use Rattle.page.proofs.Steps.{lines_start, line_named, line_rows_lem, line_room, line_same, lines_step, lines_end}
 use Rattle.page.proofs.put_page.Goals as goal
 
 pub loop-j-init : goal.loop-j-init

@@ -1,12 +1,10 @@
-use borrow.Author.Rules.{rules}
 use mathlib.Core.Path.{ap, ◌∙◌}
 use native.Mathlib.Omega.{arith}
-use Prim.Native.Nat.{◌-◌}
 use Rattle.sets.specs.Sets.{size}
 use Rattle.sets.specs.Value.{width}
 use Rattle.sets.proofs.Laws.{size_le}
 use Rattle.sets.proofs.Held.{held}
-use Rattle.page.proofs.Counts.{Counted, counted_start, counted_more, counted_end}
+use Rattle.page.proofs.Counts.{counted_start, counted_more, counted_end}
 use Rattle.page.proofs.row_count.Goals as goal
 
 pub loop-j-init : goal.loop-j-init

@@ -3,7 +3,6 @@ use native.Mathlib.Omega.{arith}
 use Rattle.answers.specs.Model.{verdict}
 use Rattle.page.proofs.PageRows.{page_few}
 use Rattle.page.proofs.Answered.{rows_refused, rows_counted}
-use borrow.Author.Rules.{rules}
 use Rattle.page.proofs.rows.Goals as goal
 
 pub returns-in-Stop : goal.returns-in-Stop

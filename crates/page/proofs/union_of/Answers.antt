@@ -3,7 +3,6 @@ use native.Mathlib.Omega.{arith}
 use Prim.Native.Nat.{ℕ, ◌+◌, ◌*◌}
 use Rattle.sets.specs.Value.{set_at}
 use Rattle.percolation.specs.Tree.{line_length}
-use borrow.Author.Rules.{rules}
 use Rattle.page.proofs.union_of.Goals as goal
 
 pub overflow_mul-j : goal.overflow_mul-j

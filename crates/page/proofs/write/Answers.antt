@@ -5,7 +5,6 @@ use Rattle.answers.specs.Model.{verdict}
 use Rattle.page.proofs.Filling.{part_length}
 use Rattle.page.proofs.PageRows.{page_few}
 use Rattle.page.proofs.Answered.{page_refused, count_bytes, page_short, page_written}
-use borrow.Author.Rules.{rules}
 use Rattle.page.proofs.write.Goals as goal
 
 pub returns-in-Stop : goal.returns-in-Stop

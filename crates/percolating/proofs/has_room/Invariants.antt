@@ -1,17 +1,11 @@
-use mathlib.Core.Path.{◌≡◌, refl, sym, ◌∙◌}
+use mathlib.Core.Path.{◌≡◌}
 use Prim.Native.Nat.{◌<◌, ◌^◌}
-use native.Mathlib.Omega.{arith}
-use borrow.Author.Rules.{rules}
-use borrow.Author.Tests.{not-true, not-false}
 use lib.Dec.{leb}
 use lib.ListN.{length}
 use Rattle.sets.specs.Sets.{members}
 use Rattle.sets.specs.Value.{width, num}
-use Rattle.sets.proofs.Held.{held}
-use Rattle.slots.proofs.Peel.{peel_less}
-use Rattle.search.proofs.Peeled.{peeled_none, peeled_next}
 use Rattle.percolating.specs.Model.{lacking}
-use Rattle.percolating.proofs.Loops.{ToGo, room_plenty, room_begin, room_held, room_none, room_less, room_end}
+use Rattle.percolating.proofs.Loops.{ToGo}
 use Rattle.percolating.proofs.has_room.Given as goal
 
 -- The invariant: the parts left fit the free slots left exactly when all parts fit those at the start. Assumes nothing.

@@ -2,7 +2,6 @@ use mathlib.Core.Path.{ap, ◌∙◌}
 use Prim.Native.Nat.{ℕ}
 use lib.ListN.{get_or}
 use lib.Ieee.{nan}
-use borrow.Author.Rules.{rules}
 use Rattle.percolation.specs.Strength.{weakest_of}
 use Rattle.products.specs.Measures.{strong_enough}
 use Rattle.products.specs.Model.{table_weights}

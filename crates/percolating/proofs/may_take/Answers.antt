@@ -1,4 +1,3 @@
-use borrow.Author.Rules.{rules}
 use Rattle.percolating.proofs.Loops.{sure_so, sure_not}
 use Rattle.percolating.proofs.may_take.Goals as goal
 

@@ -1,11 +1,7 @@
-use mathlib.Core.Path.{◌≡◌, refl, sym, ap, ◌∙◌}
-use Prim.Native.Nat.{◌+◌, ◌-◌, ◌≤◌}
+use mathlib.Core.Path.{refl, sym, ap, ◌∙◌}
 use native.Mathlib.Omega.{arith}
-use lib.ListN.{length}
-use borrow.Author.Rules.{rules}
-use Rattle.slots.specs.Tables.{tables, room}
 use Rattle.percolating.specs.Model.{took_each}
-use Rattle.percolating.proofs.Loops.{strong_from, told_strong, strong_begin, strong_yes, strong_no, strong_end}
+use Rattle.percolating.proofs.Loops.{told_strong, strong_begin, strong_yes, strong_no, strong_end}
 use Rattle.percolating.proofs.percolate.Goals as goal
 
 pub loop-i-init : goal.loop-i-init

@@ -1,11 +1,9 @@
-use mathlib.Core.Path.{◌≡◌, refl, sym, ap, ◌∙◌}
+use mathlib.Core.Path.{◌≡◌}
 use Prim.Native.Nat.{◌+◌, ◌-◌, ◌≤◌}
-use native.Mathlib.Omega.{arith}
 use lib.ListN.{length}
-use borrow.Author.Rules.{rules}
 use Rattle.slots.specs.Tables.{tables, room}
 use Rattle.percolating.specs.Model.{took_each}
-use Rattle.percolating.proofs.Loops.{strong_from, told_strong, strong_begin, strong_yes, strong_no, strong_end}
+use Rattle.percolating.proofs.Loops.{strong_from}
 use Rattle.percolating.proofs.percolate.Given as goal
 
 -- The invariant: the strong ones of the rows left, into the tables as they stand, give what all of them give into the tables as they came. Assumes nothing.

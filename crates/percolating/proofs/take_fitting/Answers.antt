@@ -1,6 +1,4 @@
 use native.Mathlib.Omega.{arith}
-use borrow.Author.Rules.{rules}
-use borrow.Author.Tests.{not-true, not-false}
 use Rattle.slots.proofs.Lengths.{room_within}
 use Rattle.percolating.proofs.Fitting.{took_over, took_full, took_fits}
 use Rattle.percolating.proofs.take_fitting.Goals as goal

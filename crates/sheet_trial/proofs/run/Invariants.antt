@@ -1,5 +1,3 @@
-use native.Mathlib.Omega.{arith}
-use borrow.Author.Rules.{rules}
 use Prim.Native.Nat.{◌≤◌, ◌-◌, ◌+◌, min}
 use lib.ListN.{length}
 use Rattle.sheet_trial.proofs.run.Given as goal

@@ -1,5 +1,4 @@
 use mathlib.Core.Path.{refl}
-use borrow.Author.Rules.{rules}
 use Rattle.strong_checks.proofs.Calls.{ran_passed, strength_stopped, strength_ran}
 use Rattle.strength.proofs.listing.Goals as goal
 

@@ -1,5 +1,4 @@
 use mathlib.Core.Path.{ap, ◌∙◌}
-use borrow.Author.Rules.{rules}
 use Rattle.answers.specs.Model.{verdict}
 use Rattle.sheet.proofs.Said.{say_faulty, say_holds}
 use Rattle.runs.proofs.Admitted.{told_faulty, told_fine}

@@ -1,5 +1,4 @@
 use native.Mathlib.Omega.{arith}
-use borrow.Author.Rules.{rules}
 use Rattle.strong_checks.proofs.Sure.{bearing_weakest, bearing_product}
 use Rattle.strong_checks.proofs.bearing.Goals as goal
 

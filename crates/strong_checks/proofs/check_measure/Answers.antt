@@ -1,5 +1,4 @@
 use mathlib.Core.Path.{refl}
-use borrow.Author.Rules.{rules}
 use Rattle.strong_checks.proofs.Calls.{measure_weakest, measure_product}
 use Rattle.strong_checks.proofs.check_measure.Goals as goal
 

@@ -1,6 +1,5 @@
 use mathlib.Core.Path.{ap, ap₂, ◌∙◌}
 use mathlib.Core.Bool.{Bool}
-use borrow.Author.Rules.{rules}
 use Rattle.answers.specs.Verdict.{◌then◌, unless}
 use Rattle.strong_checks.proofs.check_numbers.Goals as goal
 

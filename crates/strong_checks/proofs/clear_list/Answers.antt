@@ -1,4 +1,3 @@
-use borrow.Author.Rules.{rules}
 use Rattle.strong_checks.proofs.Calls.{cleared_both}
 use Rattle.strong_checks.proofs.clear_list.Goals as goal
 

@@ -1,5 +1,4 @@
 use native.Mathlib.Omega.{arith}
-use borrow.Author.Rules.{rules}
 use Rattle.strong_checks.proofs.Sure.{bearing_slots}
 use Rattle.strong_checks.proofs.is_sure.Goals as goal
 

@@ -1,4 +1,3 @@
-use borrow.Author.Rules.{rules}
 use Rattle.strong_checks.proofs.Calls.{level_both, level_stop}
 use Rattle.strong_checks.proofs.level.Goals as goal
 

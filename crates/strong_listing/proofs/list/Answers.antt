@@ -1,5 +1,4 @@
 use mathlib.Core.Path.{refl, ◌∙◌}
-use borrow.Author.Rules.{rules}
 use Rattle.runs.proofs.Calls.{run_short, run_listing}
 use Rattle.strong_listing.proofs.Families.{family_short, family_fits, family_listed}
 use Rattle.strong_listing.proofs.list.Goals as goal

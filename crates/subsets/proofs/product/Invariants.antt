@@ -1,9 +1,6 @@
-use mathlib.Core.Path.{◌≡◌, sym, ap, ◌∙◌}
+use mathlib.Core.Path.{◌≡◌}
 use Prim.Native.Nat.{◌≤◌, ◌-◌}
-use native.Mathlib.Omega.{arith}
 use Rattle.subsets.specs.Subsets.{subset_count}
-use Rattle.subsets.proofs.Pascal.{count_empty}
-use Rattle.subsets.proofs.Formula.{product_fits, next_count}
 use Rattle.subsets.proofs.product.Given as goal
 
 -- The invariant: c counts the subsets of i parts. Assumes nothing.

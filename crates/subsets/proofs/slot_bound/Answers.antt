@@ -1,7 +1,5 @@
 use mathlib.Core.Path.{sym, ◌∙◌}
 use native.Mathlib.Omega.{arith}
-use borrow.Author.Rules.{rules}
-use borrow.Author.Tests.{not-true, not-false}
 use Rattle.percolation.proofs.Ranges.{good_k_lem}
 use Rattle.subsets.proofs.Checks.{says_four, says_ten, says_count, bound_over, bound_at}
 use Rattle.subsets.proofs.slot_bound.Goals as goal

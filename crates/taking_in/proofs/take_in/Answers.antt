@@ -17,7 +17,6 @@ returns-then-is_empty c =
 
 pub returns : goal.returns
 returns c =
-    let t = c in
     let u = c in
     let z = u in
     let w = z in
@@ -27,4 +26,4 @@ returns c =
     let rest = peeled _ _ _ w.lowest.ensures w.without-rest.ensures in
     let one = took_part_lem _ _ _ _ _ _ _ w.without-rest.ensures at u.take_slot-m.ensures.result_after in
     let next = peel_next _ _ _ some w.lowest.ensures w.without-rest.ensures _ _ _ _ (held a.args.q a.well_formed.1.1.1.1.1.0) one in
-    record { result_after = took_in_lem _ _ _ _ _ _ rest at (t.take_parts-n.ensures.result_after ∙ sym next) (c.touch-2.ensures _); upper_bound = t.take_parts-n.ensures.upper_bound }
+    record { result_after = took_in_lem _ _ _ _ _ _ rest at (c.take_parts-n.ensures.result_after ∙ sym next) (c.touch-2.ensures _); upper_bound = c.take_parts-n.ensures.upper_bound }

@@ -5,8 +5,7 @@ use Rattle.taking_in.proofs.take_parts.Goals as goal
 
 pub loop-q-init : goal.loop-q-init
 loop-q-init c =
-    let b = c in
-    (held b.args.parts b.well_formed.1.1.1.1.1.1.1.0, b.requires, refl, refl, refl, refl, refl)
+    (held c.args.parts c.well_formed.1.1.1.1.1.1.1.0, c.requires, refl, refl, refl, refl, refl)
 
 pub take_part-n-requires : goal.take_part-n-requires
 take_part-n-requires c = c.loop-q.invariant.1

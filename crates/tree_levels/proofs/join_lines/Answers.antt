@@ -22,9 +22,9 @@ loop-i-preserved c =
       elim c.if-absorbed.branch [
         | then-absorbed w ↦
             went_yes a.entries.now ms a.unions.now a.out.now l.out a.n l.i l.invariant.2 _ _ _ (t ∙ w.if-absorbed.true)
-                (w.note_at-old.ensures ∙ ap (number_at ms) (add-one l.i))
-                (w.note_at-line.ensures ∙ ap (number_at ms) (add-one _ ∙ ap suc w.root-r.ensures.0))
-                (λ f u X rest e k. w.out-is ∙ w.put_into.ensures f u X rest e k)
+            (w.note_at-old.ensures ∙ ap (number_at ms) (add-one l.i))
+            (w.note_at-line.ensures ∙ ap (number_at ms) (add-one _ ∙ ap suc w.root-r.ensures.0))
+            (λ f u X rest e k. w.out-is ∙ w.put_into.ensures f u X rest e k)
         | else-absorbed w ↦ went_no a.entries.now ms a.unions.now a.out.now l.out a.n l.i l.invariant.2 _ (t ∙ w.if-absorbed.false) w.out-is
       ],
     )

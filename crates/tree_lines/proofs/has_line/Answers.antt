@@ -1,5 +1,4 @@
 use Rattle.tree_lines.proofs.LinePlaces.{line_tested, line_below, line_above}
-use borrow.Author.Rules.{rules}
 use native.Mathlib.Omega.{arith}
 use Rattle.tree_lines.proofs.has_line.Goals as goal
 

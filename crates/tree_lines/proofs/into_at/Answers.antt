@@ -2,17 +2,18 @@ use Rattle.tree_lines.proofs.LineFields.{outside, into_read, field_room}
 use Rattle.tree_lines.proofs.LinePlaces.{has_line_lem}
 use mathlib.Core.Logic.{⊎_elim}
 use mathlib.Core.Path.{sym, ap, ◌∙◌}
-use borrow.Author.Tests.{not-true, not-false}
 use Prim.Native.Nat.{ℕ, ◌+◌, ◌*◌, ◌-◌}
 use native.Mathlib.Omega.{arith}
-use borrow.Author.Rules.{rules}
 use Rattle.tree_lines.proofs.into_at.Goals as goal
 
 pub returns-then-not-has_line : goal.returns-then-not-has_line
-returns-then-not-has_line c = record { by_index = λ f u X rest e l low high.
+returns-then-not-has_line c = record {
+  by_index = λ f u X rest e l low high.
       let a = c.args in
       let t = sym c.has_line.ensures ∙ c.if-not-has_line.true in
-      absurd (⊎_elim (λ z. omega arith) (λ z. omega arith) (outside f u X rest a.out.now a.n a.m e l t)); upper_bound = omega arith }
+      absurd (⊎_elim (λ z. omega arith) (λ z. omega arith) (outside f u X rest a.out.now a.n a.m e l t));
+  upper_bound = omega arith;
+}
 
 pub overflow_sub-m : goal.overflow_sub-m
 overflow_sub-m c = omega (arith, has_line_lem _ _ _ (sym c.has_line.ensures ∙ c.if-not-has_line.false))
@@ -30,5 +31,8 @@ overflow_add-m c =
 pub returns : goal.returns
 returns c =
     let a = c.args in
-    let size = c.line_length.ensures in record { by_index = λ f u X rest e l low high.
-          c.four_at.ensures.0 ∙ into_read f u X rest a.out.now a.n a.m e l _ low high (ap (λ (k : ℕ). (a.m - 1) * k + 6) size); upper_bound = c.four_at.ensures.1 }
+    let size = c.line_length.ensures in record {
+      by_index = λ f u X rest e l low high.
+          c.four_at.ensures.0 ∙ into_read f u X rest a.out.now a.n a.m e l _ low high (ap (λ (k : ℕ). (a.m - 1) * k + 6) size);
+      upper_bound = c.four_at.ensures.1;
+    }

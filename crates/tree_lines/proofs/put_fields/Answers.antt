@@ -2,7 +2,6 @@ use Rattle.tree_lines.proofs.LinePlaces.{fields_written}
 use Rattle.sets.specs.Value.{num}
 use Prim.Native.Nat.{ℕ, ◌+◌}
 use mathlib.Core.Path.{refl, ap}
-use borrow.Author.Rules.{rules}
 use Rattle.tree_lines.proofs.put_fields.Goals as goal
 
 pub returns : goal.returns

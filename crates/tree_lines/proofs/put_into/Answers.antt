@@ -1,10 +1,8 @@
 use Rattle.tree_lines.proofs.LinePlaces.{has_line_lem}
 use Rattle.tree_lines.proofs.LineFields.{into_written, into_none, field_room}
 use mathlib.Core.Path.{sym, ap, ◌∙◌}
-use borrow.Author.Tests.{not-true, not-false}
 use Prim.Native.Nat.{ℕ, ◌+◌, ◌*◌, ◌-◌}
 use native.Mathlib.Omega.{arith}
-use borrow.Author.Rules.{rules}
 use Rattle.tree_lines.proofs.put_into.Goals as goal
 
 pub returns-then-not-has_line : goal.returns-then-not-has_line

@@ -3,10 +3,8 @@ use Rattle.tree_lines.proofs.LineFields.{whole_written, whole_none, field_room}
 use Rattle.sets.specs.Value.{num}
 use Rattle.percolation.specs.Tree.{whole_place}
 use mathlib.Core.Path.{sym, ap₂, ◌∙◌}
-use borrow.Author.Tests.{not-true, not-false}
 use Prim.Native.Nat.{ℕ, ◌+◌, ◌*◌, ◌-◌}
 use native.Mathlib.Omega.{arith}
-use borrow.Author.Rules.{rules}
 use Rattle.tree_lines.proofs.put_whole.Goals as goal
 
 pub returns-then-not-has_line : goal.returns-then-not-has_line

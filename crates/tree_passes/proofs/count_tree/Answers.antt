@@ -1,16 +1,12 @@
 use Rattle.sets.proofs.Tables.{length_none}
 use Rattle.tree_passes.proofs.SheetPasses.{passes_two, passes_few, next_level, counting_first, counting_last}
-use Rattle.tree_passes.proofs.TreePasses.{Counting, counting_step}
+use Rattle.tree_passes.proofs.TreePasses.{counting_step}
 use Rattle.runs.proofs.Admitted.{call_sheet}
 use Rattle.slots.proofs.Lengths.{room_within}
-use Rattle.percolation.specs.Ranges.{most_slots}
-use Rattle.slots.specs.Tables.{tables, room}
-use Rattle.sheet.specs.Sheet.{parts, links_of}
-use Rattle.sets.specs.Value.{no_rows}
+use Rattle.slots.specs.Tables.{tables}
 use lib.ListN.{length}
-use Prim.Native.Nat.{ℕ, ◌+◌, ◌*◌, ◌≤◌, ◌-◌}
-use mathlib.Core.Path.{◌≡◌, refl, sym, ap, ◌∙◌}
-use borrow.Author.Rules.{rules}
+use Prim.Native.Nat.{ℕ, ◌+◌}
+use mathlib.Core.Path.{refl, sym, ap, ◌∙◌}
 use native.Mathlib.Omega.{arith}
 use Rattle.tree_passes.proofs.count_tree.Goals as goal
 

@@ -1,17 +1,11 @@
-use Rattle.sets.proofs.Tables.{length_none}
-use Rattle.tree_passes.proofs.SheetPasses.{passes_two, passes_few, next_level, counting_first, counting_last}
-use Rattle.tree_passes.proofs.TreePasses.{Counting, counting_step}
-use Rattle.runs.proofs.Admitted.{call_sheet}
-use Rattle.slots.proofs.Lengths.{room_within}
+use Rattle.tree_passes.proofs.TreePasses.{Counting}
 use Rattle.percolation.specs.Ranges.{most_slots}
 use Rattle.slots.specs.Tables.{tables, room}
 use Rattle.sheet.specs.Sheet.{parts, links_of}
 use Rattle.sets.specs.Value.{no_rows}
 use lib.ListN.{length}
-use Prim.Native.Nat.{ℕ, ◌+◌, ◌*◌, ◌≤◌, ◌-◌}
-use mathlib.Core.Path.{◌≡◌, refl, sym, ap, ◌∙◌}
-use borrow.Author.Rules.{rules}
-use native.Mathlib.Omega.{arith}
+use Prim.Native.Nat.{◌*◌, ◌≤◌, ◌-◌}
+use mathlib.Core.Path.{◌≡◌}
 use Rattle.tree_passes.proofs.count_tree.Given as goal
 
 -- The invariant: n counts the lines of the levels of the links below j. Assumes nothing.

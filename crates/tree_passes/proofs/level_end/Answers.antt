@@ -2,7 +2,6 @@ use Rattle.tree_passes.proofs.SheetPasses.{level_on}
 use Rattle.percolation.specs.Links.{Link}
 use mathlib.Core.Path.{ap}
 use native.Mathlib.Omega.{arith}
-use borrow.Author.Rules.{rules}
 use Rattle.tree_passes.proofs.level_end.Goals as goal
 
 pub link-l-requires : goal.link-l-requires

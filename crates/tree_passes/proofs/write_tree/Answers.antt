@@ -1,16 +1,13 @@
 use Rattle.tree_passes.proofs.SheetPasses.{passes_two, next_level, writing_room, writing_first, writing_bound, writing_last}
-use Rattle.tree_passes.proofs.TreeWritten.{Writing, writing_step}
+use Rattle.tree_passes.proofs.TreeWritten.{writing_step}
 use Rattle.runs.proofs.Admitted.{call_sheet}
 use Rattle.slots.proofs.Lengths.{room_within}
-use Rattle.slots.specs.Tables.{tables, room}
-use Rattle.sheet.specs.Sheet.{parts, links_of}
+use Rattle.slots.specs.Tables.{tables}
 use Rattle.percolation.specs.Links.{Link}
 use Rattle.sets.proofs.Tables.{length_none}
-use Rattle.sets.specs.Value.{no_rows}
 use lib.ListN.{length}
-use Prim.Native.Nat.{◌≤◌, ◌<◌, ◌-◌, ◌^◌}
-use mathlib.Core.Path.{◌≡◌, refl, sym, ap, ◌∙◌}
-use borrow.Author.Rules.{rules}
+use Prim.Native.Nat.{◌<◌, ◌^◌}
+use mathlib.Core.Path.{refl, sym, ap, ◌∙◌}
 use native.Mathlib.Omega.{arith}
 use Rattle.tree_passes.proofs.write_tree.Goals as goal
 

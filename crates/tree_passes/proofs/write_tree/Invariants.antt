@@ -1,17 +1,10 @@
-use Rattle.tree_passes.proofs.SheetPasses.{passes_two, next_level, writing_room, writing_first, writing_bound, writing_last}
-use Rattle.tree_passes.proofs.TreeWritten.{Writing, writing_step}
-use Rattle.runs.proofs.Admitted.{call_sheet}
-use Rattle.slots.proofs.Lengths.{room_within}
+use Rattle.tree_passes.proofs.TreeWritten.{Writing}
 use Rattle.slots.specs.Tables.{tables, room}
 use Rattle.sheet.specs.Sheet.{parts, links_of}
-use Rattle.percolation.specs.Links.{Link}
-use Rattle.sets.proofs.Tables.{length_none}
 use Rattle.sets.specs.Value.{no_rows}
 use lib.ListN.{length}
-use Prim.Native.Nat.{◌≤◌, ◌<◌, ◌-◌, ◌^◌}
-use mathlib.Core.Path.{◌≡◌, refl, sym, ap, ◌∙◌}
-use borrow.Author.Rules.{rules}
-use native.Mathlib.Omega.{arith}
+use Prim.Native.Nat.{◌≤◌, ◌-◌}
+use mathlib.Core.Path.{◌≡◌}
 use Rattle.tree_passes.proofs.write_tree.Given as goal
 
 -- The invariant: the output holds the lines of the levels of the links below `from`. Assumes nothing.

@@ -1,9 +1,5 @@
-use Prim.Native.Nat.{◌≤◌}
 use native.Mathlib.Omega.{arith}
-use lib.ListN.{drop}
 use mathlib.Core.Path.{sym, ◌∙◌}
-use Rattle.sheet.specs.Sheet.{links_of}
-use Rattle.weights.specs.Model.{Weighs}
 use Rattle.weights.proofs.Filling.{from_last, from_next, all_weighs, ends_narrow}
 use Rattle.weights.proofs.fill.Goals as goal
 

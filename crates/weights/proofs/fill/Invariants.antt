@@ -1,10 +1,7 @@
 use Prim.Native.Nat.{◌≤◌}
-use native.Mathlib.Omega.{arith}
 use lib.ListN.{drop}
-use mathlib.Core.Path.{sym, ◌∙◌}
 use Rattle.sheet.specs.Sheet.{links_of}
 use Rattle.weights.specs.Model.{Weighs}
-use Rattle.weights.proofs.Filling.{from_last, from_next, all_weighs, ends_narrow}
 use Rattle.weights.proofs.fill.Given as goal
 
 -- The invariant: the table has the weights of the links from j on. Assumes nothing.

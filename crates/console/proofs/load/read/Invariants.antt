@@ -1,9 +1,6 @@
-use native.Mathlib.Omega.{arith}
-use borrow.Author.Rules.{rules}
 use Prim.Native.Nat.{◌≤◌, ◌-◌}
-use mathlib.Core.Path.{◌≡◌, refl}
+use mathlib.Core.Path.{◌≡◌}
 use lib.ListN.{length}
-use Rattle.console.proofs.Bounds.{within_bytes}
 use Rattle.console.proofs.load.read.Given as goal
 
 abbrev pub invariant-loop-n : goal.invariant-loop-n

@@ -1,6 +1,3 @@
-use native.Mathlib.Omega.{arith}
-use borrow.Author.Rules.{rules}
-use Prim.Native.Nat.{◌-◌}
 use Rattle.families.proofs.args.dashes.Goals as goal
 
 pub loop-i-init : goal.loop-i-init

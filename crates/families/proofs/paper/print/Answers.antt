@@ -3,7 +3,6 @@ use native.Mathlib.Omega.{arith}
 use Prim.Native.Nat.{ℕ, ◌*◌, ◌/◌}
 use lib.ListN.{length}
 use Rattle.percolation.specs.Tree.{line_length}
-use borrow.Author.Rules.{rules}
 use Rattle.families.proofs.paper.print.Goals as goal
 
 pub overflow_mul-size : goal.overflow_mul-size

@@ -1,6 +1,5 @@
 use native.Mathlib.Omega.{arith}
 use Rattle.typed.proofs.Bounds.{line_in}
-use borrow.Author.Rules.{rules}
 use Rattle.live.proofs.dialogue.answer_next.Goals as goal
 
 pub slice_bounds-answer-count : goal.slice_bounds-answer-count

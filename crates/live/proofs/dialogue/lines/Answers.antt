@@ -1,9 +1,5 @@
-use mathlib.Core.Path.{◌≡◌, refl, ◌∙◌}
+use mathlib.Core.Path.{refl, ◌∙◌}
 use native.Mathlib.Omega.{arith}
-use borrow.Author.Rules.{rules}
-use Prim.Native.Nat.{◌-◌}
-use lib.ListN.{length}
-use Rattle.typed.specs.Lines.{KeptIn}
 use Rattle.live.proofs.dialogue.lines.Goals as goal
 
 pub loop-n-init : goal.loop-n-init

@@ -1,7 +1,5 @@
 use mathlib.Core.Path.{sym, ◌∙◌}
-use borrow.Author.Rules.{rules}
-use borrow.Author.Tests.{not-true}
-use Rattle.sets.specs.Value.{width, num}
+use Rattle.sets.specs.Value.{width}
 use Rattle.sets.proofs.Laws.{out_less}
 use Rattle.sets.proofs.Members.{answer_has}
 use Rattle.report.proofs.names.names.Goals as goal

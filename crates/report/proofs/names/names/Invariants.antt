@@ -1,9 +1,4 @@
-use mathlib.Core.Path.{sym, ◌∙◌}
-use borrow.Author.Rules.{rules}
-use borrow.Author.Tests.{not-true}
-use Rattle.sets.specs.Value.{width, num}
-use Rattle.sets.proofs.Laws.{out_less}
-use Rattle.sets.proofs.Members.{answer_has}
+use Rattle.sets.specs.Value.{num}
 use Rattle.report.proofs.names.names.Given as goal
 
 abbrev pub invariant-loop-rest : goal.invariant-loop-rest

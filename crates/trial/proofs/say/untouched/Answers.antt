@@ -1,4 +1,4 @@
-use Rattle.std.proofs.Common.{◌≡◌, ℕ, ◌-◌, ◌<◌, ◌≤◌, length, get_or, arith, rules}
+use Rattle.std.proofs.Common.{◌≡◌, get_or, arith}
 use Rattle.trial.proofs.Places.{each_more}
 use Rattle.trial.proofs.say.untouched.Goals as goal
 

@@ -1,5 +1,4 @@
-use Rattle.std.proofs.Common.{◌≡◌, ℕ, ◌-◌, ◌<◌, ◌≤◌, length, get_or, arith, rules}
-use Rattle.trial.proofs.Places.{each_more}
+use Rattle.std.proofs.Common.{◌≡◌, ℕ, ◌-◌, ◌<◌, ◌≤◌, length, get_or}
 use Rattle.trial.proofs.say.untouched.Given as goal
 
 abbrev pub invariant-loop-i : goal.invariant-loop-i

@@ -1,4 +1,4 @@
-use Rattle.std.proofs.Common.{◌+◌, ◌-◌, ◌≤◌, length, arith, rules}
+use Rattle.std.proofs.Common.{arith}
 use Rattle.trial.proofs.script.next_row.Goals as goal
 
 pub returns-then-not-has_bytes : goal.returns-then-not-has_bytes

@@ -1,4 +1,4 @@
-use Rattle.std.proofs.Common.{◌+◌, ◌-◌, ◌≤◌, length, arith, rules}
+use Rattle.std.proofs.Common.{◌+◌, ◌-◌, ◌≤◌, length}
 use Rattle.trial.proofs.script.next_row.Given as goal
 
 abbrev pub invariant-loop-i : goal.invariant-loop-i

@@ -1,4 +1,4 @@
-use Rattle.std.proofs.Common.{◌≡◌, ◌+◌, ◌-◌, ◌≤◌, length, set, ◌∙◌, arith, length-set, rules}
+use Rattle.std.proofs.Common.{◌≡◌, length, set, ◌∙◌, arith, length-set}
 use Rattle.trial.proofs.script.spelled.Goals as goal
 
 pub loop-i-preserved : goal.loop-i-preserved

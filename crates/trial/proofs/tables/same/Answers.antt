@@ -1,6 +1,5 @@
-use Rattle.std.proofs.Common.{◌≡◌, ◌-◌, ◌≤◌, get_or, refl, arith, rules}
+use Rattle.std.proofs.Common.{◌≡◌, get_or, refl, arith}
 use mathlib.Core.Bool.{false≢true}
-use Rattle.trial.specs.Outputs.{Alike}
 use Rattle.trial.proofs.Places.{each_more}
 use Rattle.trial.proofs.tables.same.Goals as goal
 

@@ -1,7 +1,5 @@
-use Rattle.std.proofs.Common.{◌≡◌, ◌-◌, ◌≤◌, get_or, refl, arith, rules}
-use mathlib.Core.Bool.{false≢true}
+use Rattle.std.proofs.Common.{◌-◌, ◌≤◌}
 use Rattle.trial.specs.Outputs.{Alike}
-use Rattle.trial.proofs.Places.{each_more}
 use Rattle.trial.proofs.tables.same.Given as goal
 
 abbrev pub invariant-loop-i : goal.invariant-loop-i

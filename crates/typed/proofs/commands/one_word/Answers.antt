@@ -18,8 +18,7 @@ returns-then-is_alone-3 c = sym (ap word_asks (c.is_alone-3.ensures.0 c.if-is_al
 
 pub returns : goal.returns
 returns c =
-    let before = c in
     sym (asks_unknown _
-    (λ e. true≢false (sym (before.is_alone.ensures.1 e) ∙ before.if-is_alone.false))
-    (λ e. true≢false (sym (before.is_alone-2.ensures.1 e) ∙ before.if-is_alone-2.false))
+    (λ e. true≢false (sym (c.is_alone.ensures.1 e) ∙ c.if-is_alone.false))
+    (λ e. true≢false (sym (c.is_alone-2.ensures.1 e) ∙ c.if-is_alone-2.false))
     (λ e. true≢false (sym (c.is_alone-3.ensures.1 e) ∙ c.if-is_alone-3.false)))
