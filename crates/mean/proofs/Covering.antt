@@ -40,7 +40,8 @@ module _ (sets es : List ℕ) (r : ℕ) where
 
   module _ (C : List ℕ) (i : ℕ) (c : Covered sets es i r C) where
     -- the slots below one more
-    one_more : (q z : ℕ) → any (stands_together sets es r q z) (below (i + 1)) ≡ any (stands_together sets es r q z) (below i) || stands_together sets es r q z i
+    one_more : (q z : ℕ)
+        → any (stands_together sets es r q z) (below (i + 1)) ≡ any (stands_together sets es r q z) (below i) || stands_together sets es r q z i
     one_more q z =
         ap (any (stands_together sets es r q z)) (ap below (add-one i) ∙ below_more i) ∙ any_more (stands_together sets es r q z) (below i) i
 
@@ -61,7 +62,8 @@ module _ (sets es : List ℕ) (r : ℕ) where
       together = λ q z l.
           let none : stands_together sets es r q z i ≡ false = ap (λ (b : Bool). b && (has q (row sets i) && has z (row sets i))) t in
           c.together q z l
-          ∙ sym (one_more q z ∙ ap (λ (b : Bool). any (stands_together sets es r q z) (below i) || b) none ∙ or-false (any (stands_together sets es r q z) (below i)));
+          ∙ sym (one_more q z ∙ ap (λ (b : Bool). any (stands_together sets es r q z) (below i) || b) none
+          ∙ or-false (any (stands_together sets es r q z) (below i)));
     }
 
   pub covered_all : (C : List ℕ) (i n : ℕ) → i ≡ n → Covered sets es i r C → Covered sets es n r C

@@ -59,7 +59,8 @@ module _ (L : List Link) (p k : ℕ) (two : 2 ≤ k) (ok : legal p L ≡ true) w
       go : (i < j) ⊎ (j ≤ i) → (link_at L j).weight ≤ (link_at L i).weight
       go (inl g) =
           let e : suc i + (j - suc i) ≡ j = omega arith in
-          let m : get_or (drop (suc i) L) (j - suc i) d ∈ drop (suc i) L = get_d_member (drop (suc i) L) (j - suc i) d (omega (arith, length-drop (suc i) L)) in
+          let m : get_or (drop (suc i) L) (j - suc i) d ∈ drop (suc i) L = get_d_member (drop (suc i) L) (j - suc i) d
+          (omega (arith, length-drop (suc i) L)) in
           legal_falling p L ok (take i L) (drop (suc i) L) (link_at L i) (link_at L j) (split_at L i d (omega arith))
           (subst (λ (x : Link). x ∈ drop (suc i) L) (get_or-drop (suc i) L (j - suc i) d ∙ ap (link_at L) e) m)
       go (inr g) = let e : i ≡ j = omega arith in omega (arith, ap (λ (z : ℕ). (link_at L z).weight) e)
@@ -101,7 +102,8 @@ module _ (L : List Link) (p k : ℕ) (two : 2 ≤ k) (ok : legal p L ≡ true) w
           where
             low : (r : ℕ) → r ≤ length L → take r L ≡ heavy u L → n ≤ r → u ≤ w
             low r h e g =
-                let m : get_or (take r L) (n - 1) (link 0 0 0) ∈ take r L = get_d_member (take r L) (n - 1) (link 0 0 0) (omega (arith, length-take-le r L h)) in
+                let m : get_or (take r L) (n - 1) (link 0 0 0) ∈ take r L = get_d_member (take r L) (n - 1) (link 0 0 0)
+                (omega (arith, length-take-le r L h)) in
                 (heavy_of u L
                 (subst (λ (M : List Link). link_at L (n - 1) ∈ M) e
                 (subst (λ (x : Link). x ∈ take r L) (get_or-take r L (n - 1) (link 0 0 0) (omega arith)) m))).1

@@ -21,7 +21,8 @@ use Rattle.overlaps.proofs.Moves.{Holding, holding_rows}
 use Rattle.meeting_maximal.specs.Model.{Stands, Filled}
 
 -- what the table T has after a search by the rows R of the links L
-module _ (L : List Link) (p k : ℕ) (R : List ℕ) (ok : legal p L ≡ true) (wide : p ≤ width) (near : Neighbours L R) (room : ℕ) (S : List ℕ) (long : room ≤ rows S)
+module _ (L : List Link) (p k : ℕ) (R : List ℕ) (ok : legal p L ≡ true) (wide : p ≤ width) (near : Neighbours L R) (room : ℕ) (S : List ℕ)
+    (long : room ≤ rows S)
     (n : ℕ) (T : List ℕ) (e : found T n ≡ found_all room (found S 0) (maximals_by R p k)) where
   abbrev C : List ℕ
   C = maximals_by R p k

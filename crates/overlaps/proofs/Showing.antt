@@ -87,7 +87,8 @@ module _ (k : ℕ) (M : List ℕ) where
       wholes : c.whole ≡ d.whole
       wholes =
           x.0.union
-          ∙ union_same (keep (joined_by (overlap k) M x.0.base) M) (keep (joined_by (overlap k) M y.0.base) M) (in_both b a d c y x back) (in_both a b c d x y j)
+          ∙ union_same (keep (joined_by (overlap k) M x.0.base) M) (keep (joined_by (overlap k) M y.0.base) M) (in_both b a d c y x back)
+          (in_both a b c d x y j)
           ∙ sym y.0.union
 
 -- what shows a class goes by the members of the family alone

@@ -19,7 +19,8 @@ swap_is T U W i j s t p q a b = rw (b, a, q, p)
 
 -- ---- the sweep: a set that is near moves up, another stays
 
-pub swept_near : (m k s : ℕ) (A : List ℕ) (e j : ℕ) → overlap k s (row A j) ≡ true → swept_from (suc m) k s A e j ≡ swept_from m k s (swapped A e j) (suc e) (suc j)
+pub swept_near : (m k s : ℕ) (A : List ℕ) (e j : ℕ) → overlap k s (row A j) ≡ true
+    → swept_from (suc m) k s A e j ≡ swept_from m k s (swapped A e j) (suc e) (suc j)
 unfolding swept_from
 swept_near m k s A e j t = rw (swept_from, t)
 

@@ -25,4 +25,5 @@ shape_of-smallest c = c.take_links-used.auto.smallest ∙ c.clear.auto.smallest
 pub returns : goal.returns
 returns c =
     let q = c.requires in
-    family_counted _ _ _ q.0 c.args.n q.2 _ q.3 _ _ _ c.no_rows-rows.ensures c.clear.ensures c.take_links-used.ensures.result_after _ _ c.slot_of-i.ensures c.root-r.ensures.0 _ c.cover-covered.ensures _ c.count_links.ensures
+    family_counted _ _ _ q.0 c.args.n q.2 _ q.3 _ _ _ c.no_rows-rows.ensures c.clear.ensures c.take_links-used.ensures.result_after _ _ c.slot_of-i.ensures
+    c.root-r.ensures.0 _ c.cover-covered.ensures _ c.count_links.ensures

@@ -17,15 +17,20 @@ has_slots-requires c =
 pub returns-then-not-has_slots : goal.returns-then-not-has_slots
 returns-then-not-has_slots c =
     let h = c.heavy-n in
-    mean_short _ _ _ _ _ _ _ c.admit.ensures _ _ c.in-Fine.is h.result h.ensures.0 _ _ c.clear.ensures refl refl refl refl (sym c.has_slots.ensures ∙ c.if-not-has_slots.true) refl
+    mean_short _ _ _ _ _ _ _ c.admit.ensures _ _ c.in-Fine.is h.result h.ensures.0 _ _ c.clear.ensures refl refl refl refl
+    (sym c.has_slots.ensures ∙ c.if-not-has_slots.true) refl
 
 pub family_links-all-requires : goal.family_links-all-requires
 family_links-all-requires c =
     let h = c.heavy-n in
     let e = c.admit.ensures in
     let g = c.in-Fine.is in
-    let o = told_fine _ _ _ e _ _ g in
-    (clique_call _ _ _ _ _ o.0, omega (arith, o.2, h.ensures.1), sym c.has_slots.ensures ∙ c.if-not-has_slots.false, first_member _ _ _ _ _ o.0 h.result h.ensures.0)
+    let o = told_fine _ _ _ e _ _ g in (
+      clique_call _ _ _ _ _ o.0,
+      omega (arith, o.2, h.ensures.1),
+      sym c.has_slots.ensures ∙ c.if-not-has_slots.false,
+      first_member _ _ _ _ _ o.0 h.result h.ensures.0,
+    )
 
 pub nonzero_div-quotient : goal.nonzero_div-quotient
 nonzero_div-quotient c =
@@ -47,4 +52,5 @@ returns-else-not-has_slots c =
     let h = c.heavy-n in
     let f = c.family_links-all in
     let l = f.auto in
-    mean_ran _ _ _ _ _ _ _ c.admit.ensures _ _ c.in-Fine.is h.result h.ensures.0 _ _ c.clear-in-Fine.ensures l.sets l.entries l.smallest l.unions (sym c.has_slots.ensures ∙ c.if-not-has_slots.false) f.result f.ensures refl
+    mean_ran _ _ _ _ _ _ _ c.admit.ensures _ _ c.in-Fine.is h.result h.ensures.0 _ _ c.clear-in-Fine.ensures l.sets l.entries l.smallest l.unions
+    (sym c.has_slots.ensures ∙ c.if-not-has_slots.false) f.result f.ensures refl

@@ -11,9 +11,6 @@ class_at-class-requires c = omega (arith, c.if-n-i.false)
 
 pub returns : goal.returns
 returns c =
-    let g = c in
-    let w = g in
-    let h = w in
-    let i = h in
-    let l : i.holder-i.result < i.args.n = omega (arith, h.if-n-i.false) in
-    λ L p st one sa sb. class_tells L p _ _ _ st one _ _ sa sb _ l (i.holder-i.ensures.2 l) _ _ _ _ _ w.swap.ensures g.class_at-class.ensures.whole_after _ c.holder.ensures.0 c.holder.ensures.1 c.holder.ensures.2
+    let l : c.holder-i.result < c.args.n = omega (arith, c.if-n-i.false) in
+    λ L p st one sa sb. class_tells L p _ _ _ st one _ _ sa sb _ l (c.holder-i.ensures.2 l) _ _ _ _ _ c.swap.ensures
+    c.class_at-class.ensures.whole_after _ c.holder.ensures.0 c.holder.ensures.1 c.holder.ensures.2

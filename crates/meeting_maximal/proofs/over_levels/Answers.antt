@@ -21,59 +21,55 @@ heavy-end-requires c = (c.requires.0, c.requires.2)
 
 pub take_level-found-requires : goal.take_level-found-requires
 take_level-found-requires c =
-    let l = c in
-    let a = l in
-    let e = room_within a.args.entries.now in
-    let r = l.room-room.ensures in
-    (a.requires.0, a.requires.1, omega (arith, c.heavy-end.ensures.1, a.requires.2), omega (arith, r, e.1), omega (arith, r, e.0, a.requires.4, rows_length l.loop-n.sets a.args.sets.now l.loop-n.invariant.1))
+    let e = room_within c.args.entries.now in
+    let r = c.room-room.ensures in (
+      c.requires.0,
+      c.requires.1,
+      omega (arith, c.heavy-end.ensures.1, c.requires.2),
+      omega (arith, r, e.1),
+      omega (arith, r, e.0, c.requires.4, rows_length c.loop-n.sets c.args.sets.now c.loop-n.invariant.1),
+    )
 
 pub shape_of-sets-then-room-found : goal.shape_of-sets-then-room-found
 shape_of-sets-then-room-found c = c.take_level-found.auto.sets ∙ c.loop-n.invariant.1
 
 pub returns-then-room-found : goal.returns-then-room-found
 returns-then-room-found c =
-    let t = c in
-    let h = t in
-    let k = h in
-    let l = k in
-    let a = l in
-    meet_short _ _ _ (level_short _ a.requires.0 l.loop-n.n _ (omega (arith, k.loop-n-test.true, a.requires.2)) (ap (λ (x : Link). x.weight) k.link-l.ensures.0) h.heavy-end.result (omega (arith, h.heavy-end.ensures.1, a.requires.2)) h.heavy-end.ensures.0 _ _ _ l.room-room.ensures _ _ t.take_level-found.ensures c.if-room-found.true) refl
+    meet_short _ _ _ (level_short _ c.requires.0 c.loop-n.n _ (omega (arith, c.loop-n-test.true, c.requires.2))
+    (ap (λ (x : Link). x.weight) c.link-l.ensures.0) c.heavy-end.result (omega (arith, c.heavy-end.ensures.1, c.requires.2))
+    c.heavy-end.ensures.0 _ _ _ c.room-room.ensures _ _ c.take_level-found.ensures c.if-room-found.true) refl
 
 pub loop-n-smaller : goal.loop-n-smaller
 loop-n-smaller c =
-    let h = c in
-    let k = h in
-    let l = k in
-    let a = l in
-    omega (arith, h.heavy-end.ensures.1, level_past _ a.requires.0 l.loop-n.n _ (omega (arith, k.loop-n-test.true, a.requires.2)) (ap (λ (x : Link). x.weight) k.link-l.ensures.0) h.heavy-end.result (omega (arith, h.heavy-end.ensures.1, a.requires.2)) h.heavy-end.ensures.0)
+    omega (
+      arith,
+      c.heavy-end.ensures.1,
+      level_past _ c.requires.0 c.loop-n.n _ (omega (arith, c.loop-n-test.true, c.requires.2))
+          (ap (λ (x : Link). x.weight) c.link-l.ensures.0) c.heavy-end.result (omega (arith, c.heavy-end.ensures.1, c.requires.2)) c.heavy-end.ensures.0,
+    )
 
 pub loop-n-preserved : goal.loop-n-preserved
-loop-n-preserved c =
-    let f = c in
-    let t = f in
-    let h = t in
-    let k = h in
-    let l = k in
-    let a = l in (
-      h.heavy-end.ensures.1,
-      f.first_met-met.auto.table ∙ t.take_level-found.auto.sets ∙ l.loop-n.invariant.1,
-      level_next _ a.requires.0 l.loop-n.n _ (omega (arith, k.loop-n-test.true, a.requires.2)) (ap (λ (x : Link). x.weight) k.link-l.ensures.0) h.heavy-end.result (omega (arith, h.heavy-end.ensures.1, a.requires.2)) h.heavy-end.ensures.0 _ _ _ l.room-room.ensures _ _ t.take_level-found.ensures f.if-room-found.false _ _ (omega (arith, a.requires.3)) a.requires.5 a.requires.6 _ _ f.first_met-met.ensures l.loop-n.invariant.2,
-    )
+loop-n-preserved c = (
+  c.heavy-end.ensures.1,
+  c.first_met-met.auto.table ∙ c.take_level-found.auto.sets ∙ c.loop-n.invariant.1,
+  level_next _ c.requires.0 c.loop-n.n _ (omega (arith, c.loop-n-test.true, c.requires.2)) (ap (λ (x : Link). x.weight) c.link-l.ensures.0)
+      c.heavy-end.result (omega (arith, c.heavy-end.ensures.1, c.requires.2))
+      c.heavy-end.ensures.0 _ _ _ c.room-room.ensures _ _ c.take_level-found.ensures c.if-room-found.false _ _ (omega (arith, c.requires.3))
+      c.requires.5 c.requires.6 _ _ c.first_met-met.ensures c.loop-n.invariant.2,
+)
 
 pub shape_of-sets-then-met-eq0 : goal.shape_of-sets-then-met-eq0
 shape_of-sets-then-met-eq0 c = c.loop-n.invariant.1
 
 pub returns-then-met-eq0 : goal.returns-then-met-eq0
 returns-then-met-eq0 c =
-    let l = c in
-    let a = l in
-    levels_never _ _ _ _ _ _ l.room-room.ensures l.loop-n.n _ (omega (arith, c.loop-n-test.false, l.loop-n.invariant.0, a.requires.2)) l.loop-n.invariant.2 c.if-met-eq0.true
+    levels_never _ _ _ _ _ _ c.room-room.ensures c.loop-n.n _ (omega (arith, c.loop-n-test.false, c.loop-n.invariant.0, c.requires.2)) c.loop-n.invariant.2
+    c.if-met-eq0.true
 
 pub shape_of-sets : goal.shape_of-sets
 shape_of-sets c = c.loop-n.invariant.1
 
 pub returns : goal.returns
 returns c =
-    let l = c in
-    let a = l in
-    levels_met _ _ _ _ _ _ l.room-room.ensures l.loop-n.n _ (omega (arith, c.loop-n-test.false, l.loop-n.invariant.0, a.requires.2)) l.loop-n.invariant.2 c.if-met-eq0.false
+    levels_met _ _ _ _ _ _ c.room-room.ensures c.loop-n.n _ (omega (arith, c.loop-n-test.false, c.loop-n.invariant.0, c.requires.2)) c.loop-n.invariant.2
+    c.if-met-eq0.false

@@ -7,4 +7,4 @@ pub take_maximal-requires : goal.take_maximal-requires
 take_maximal-requires c = (c.requires.3, omega (arith, c.requires.1, parts_width _ c.requires.0))
 
 pub returns : goal.returns
-returns c = let t = c in let r = t in let b = r in level_taken _ b.requires.0 b.args.n _ _ b.requires.1 _ r.rows_of-rows.ensures _ _ b.requires.4 _ _ t.take_maximal.ensures
+returns c = level_taken _ c.requires.0 c.args.n _ _ c.requires.1 _ c.rows_of-rows.ensures _ _ c.requires.4 _ _ c.take_maximal.ensures

@@ -27,16 +27,25 @@ complete-requires-in-Fine c = let o = told_fine _ _ _ c.admit.ensures _ _ c.in-F
 
 pub take_links-used-requires : goal.take_links-used-requires
 take_links-used-requires c =
-    let o = told_fine _ _ _ c.admit.ensures _ _ c.in-Fine.is in
-    (meet_sheet _ _ _ _ _ o.0, omega arith, meet_within _ _ _ _ _ _ c.complete.ensures c.complete-in-Fine.ensures c.larger-n.ensures, meet_two _ _ _ _ _ o.0, omega arith)
+    let o = told_fine _ _ _ c.admit.ensures _ _ c.in-Fine.is in (
+      meet_sheet _ _ _ _ _ o.0,
+      omega arith,
+      meet_within _ _ _ _ _ _ c.complete.ensures c.complete-in-Fine.ensures c.larger-n.ensures,
+      meet_two _ _ _ _ _ o.0,
+      omega arith,
+    )
 
 pub meet_after-met-requires : goal.meet_after-met-requires
 meet_after-met-requires c =
     let a = c.args in
     let o = told_fine _ _ _ c.admit.ensures _ _ c.in-Fine.is in
     let t = c.take_links-used.ensures in
-    let f = sym (slots_all a.sheet.now a.k a.entries.now _ o.2 _ c.has_slots-enough.ensures) ∙ c.if-not-enough.false in
-    (meet_sheet _ _ _ _ _ o.0, o.2, meet_two _ _ _ _ _ o.0, meet_taken _ _ _ _ _ o.0 f _ _ _ c.complete.ensures c.complete-in-Fine.ensures c.larger-n.ensures _ _ _ _ c.no_rows-r.ensures c.clear.ensures t.rows_after.0 t.result_after)
+    let f = sym (slots_all a.sheet.now a.k a.entries.now _ o.2 _ c.has_slots-enough.ensures) ∙ c.if-not-enough.false in (
+      meet_sheet _ _ _ _ _ o.0,
+      o.2,
+      meet_two _ _ _ _ _ o.0,
+      meet_taken _ _ _ _ _ o.0 f _ _ _ c.complete.ensures c.complete-in-Fine.ensures c.larger-n.ensures _ _ _ _ c.no_rows-r.ensures c.clear.ensures t.rows_after.0 t.result_after,
+    )
 
 pub returns-in-Faulty : goal.returns-in-Faulty
 returns-in-Faulty c = meet_stopped _ _ _ _ _ _ _ _ c.admit.ensures _ _ c.in-Faulty.is refl

@@ -9,15 +9,13 @@ loop-f-init c =
 
 pub loop-f-preserved : goal.loop-f-preserved
 loop-f-preserved c =
-    let b = c in
-    let s = b in
-    let l = s.loop-f in (
+    let l = c.loop-f in (
       omega arith,
       omega arith,
       omega arith,
-      b.sweep-e.auto.table ∙ l.invariant.3,
-      grow_next _ _ _ _ _ _ _ l.invariant.4 (omega arith) (omega arith) _ _ _ _ s.at-s.ensures b.lows.ensures
-          b.lesser-small.ensures b.union-whole.ensures _ _ b.sweep-e.ensures.result_after,
+      c.sweep-e.auto.table ∙ l.invariant.3,
+      grow_next _ _ _ _ _ _ _ l.invariant.4 (omega arith) (omega arith) _ _ _ _ c.at-s.ensures c.lows.ensures
+          c.lesser-small.ensures c.union-whole.ensures _ _ c.sweep-e.ensures.result_after,
     )
 
 pub shape_of-table : goal.shape_of-table

@@ -8,16 +8,14 @@ loop-i-init c = (omega arith, omega arith, refl, refl, refl, class_first _ _ _ _
 
 pub loop-i-preserved : goal.loop-i-preserved
 loop-i-preserved c =
-    let b = c in
-    let p = b in
-    let s = p in
-    let l = s.loop-i in (
+    let l = c.loop-i in (
       omega arith,
       omega arith,
-      s.class_at-class.auto.table ∙ l.invariant.2,
-      p.put.auto.table ∙ l.invariant.3,
-      b.put-in-loop-i.auto.table ∙ l.invariant.4,
-      class_next _ _ _ _ _ _ _ l.invariant.5 (omega arith) (omega arith) _ _ _ _ _ _ s.class_at-class.ensures.whole_after p.put.ensures b.put-in-loop-i.ensures,
+      c.class_at-class.auto.table ∙ l.invariant.2,
+      c.put.auto.table ∙ l.invariant.3,
+      c.put-in-loop-i.auto.table ∙ l.invariant.4,
+      class_next _ _ _ _ _ _ _ l.invariant.5 (omega arith) (omega arith) _ _ _ _ _ _ c.class_at-class.ensures.whole_after c.put.ensures
+          c.put-in-loop-i.ensures,
     )
 
 pub shape_of-sets : goal.shape_of-sets

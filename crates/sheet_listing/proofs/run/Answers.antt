@@ -17,4 +17,5 @@ pub returns-in-Maximal : goal.returns-in-Maximal
 returns-in-Maximal c =
     let a = c.args in
     let q = c.requires in
-    λ t first. by_maximal _ _ _ q.0 a.n t first a.out.now _ _ a.method c.in-Maximal.is _ _ _ c.rows_of-rows.ensures q.1 c.room-room.ensures c.list-in-Maximal.ensures
+    λ t first. by_maximal _ _ _ q.0 a.n t first a.out.now _ _ a.method c.in-Maximal.is _ _ _ c.rows_of-rows.ensures q.1 c.room-room.ensures
+    c.list-in-Maximal.ensures
