@@ -8,7 +8,7 @@ use lib.ListN.{length, get_or, drop, get_or-append}
 use borrow.Author.Tests.{le-leb, lt-leb}
 use Rattle.answers.specs.declared.Answer.{Answer}
 use Rattle.answers.specs.declared.Answer.TheVariants.{Count, Refused}
-use Rattle.answers.specs.Verdict.{Verdict, accepted, refused, ◌then◌, unless}
+use Rattle.answers.specs.Verdict.{Verdict, accepted, refused, unless}
 use Rattle.answers.specs.Answers.{says, counts, refuses}
 use Rattle.answers.proofs.Laws.{
   then_left,

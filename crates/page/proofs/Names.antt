@@ -2,12 +2,11 @@
 use mathlib.Core.Path.{◌≡◌, refl, sym, ap, ◌∙◌, subst}
 use mathlib.Core.Bool.{Bool, true, false, cond}
 use mathlib.Core.List.Memᴰ
-use mathlib.Core.List.{List, [], ◌∷◌, ◌++◌, append-nil}
+use mathlib.Core.List.{List, [], ◌∷◌, ◌++◌}
 use Prim.Native.Nat.{ℕ, zero, suc, ◌+◌, ◌-◌, ◌*◌, ◌≤◌, ◌<◌}
 use native.Mathlib.Omega.{arith}
 use lib.Dec.{eqb}
 use lib.ListN.{length, take, drop, length-append, length-take, length-drop}
-use lib.Seq.{take-length}
 use borrow.Author.Tests.{eqb-true, eqb-false}
 use Rattle.sets.specs.Lists.{◌∈◌}
 use Rattle.sets.specs.Sets.{full, out as Sets·out, lowest}
@@ -83,7 +82,8 @@ unfolding cell
 cell_none s u out e o = o ∙ sym (ap (cell s) (none_left s u e))
 
 -- eight bytes of the sheet copied over the first eight columns
-pub cell_copied : (s out copy : List ℕ) (a e : ℕ) → e ≡ a + 8 → out ≡ blanks 10 → copy ≡ take (e - a) (drop a s) → replaced out 0 8 copy ≡ eight_at s a ++ blanks 2
+pub cell_copied : (s out copy : List ℕ) (a e : ℕ) → e ≡ a + 8 → out ≡ blanks 10 → copy ≡ take (e - a) (drop a s)
+    → replaced out 0 8 copy ≡ eight_at s a ++ blanks 2
 cell_copied s out copy a e z o f =
     let whole : copy ≡ eight_at s a = f ∙ ap (λ (n : ℕ). take n (drop a s)) (let n : e - a ≡ 8 = omega arith in n) in
     ap (λ (l : List ℕ). replaced l 0 8 copy) o ∙ ap (λ (l : List ℕ). l ++ blanks 2) whole

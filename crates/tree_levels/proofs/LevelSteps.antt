@@ -81,7 +81,8 @@ module _ (es us : List ℕ) (n : ℕ) where
     unfolding start_slots
     slots_no e = go (split (eqb (root_of es i) i))
       where
-        go : (eqb (root_of es i) i ≡ true) ⊎ (eqb (root_of es i) i ≡ false) → keep (starts_at us n) (root_slots es (suc i)) ≡ keep (starts_at us n) (root_slots es i)
+        go : (eqb (root_of es i) i ≡ true) ⊎ (eqb (root_of es i) i ≡ false)
+            → keep (starts_at us n) (root_slots es (suc i)) ≡ keep (starts_at us n) (root_slots es i)
         go (inr f) = ap (keep (starts_at us n)) (roots_no es i f)
         go (inl f) =
             ap (keep (starts_at us n)) (roots_yes es i f)

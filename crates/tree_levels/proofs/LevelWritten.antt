@@ -6,7 +6,8 @@ use native.Mathlib.Omega.{arith}
 use lib.ListN.{length, drop, length-append}
 use Rattle.percolation.specs.Tree.{Line, tree_bytes}
 use Rattle.tree_lines.specs.LineModel.{line_length, lines_with, holding}
-use Rattle.tree_levels.specs.LevelModel.{join_counts, start_slots, wiped, Numbering, numbers_of, went_into, grew_to, WentTo, GrewTo, FilledTo, NumbersTo, WritesLevel}
+use Rattle.tree_levels.specs.LevelModel.{join_counts, start_slots, wiped, Numbering, numbers_of, went_into, grew_to, WentTo, GrewTo, FilledTo, NumbersTo}
+use Rattle.tree_levels.specs.LevelModel.{WritesLevel}
 use Rattle.tree_lines.proofs.LinePlaces.{tree_append}
 use Rattle.tree_lines.proofs.LineFields.{lines_length, lines_append}
 use Rattle.tree_levels.proofs.LineFilling.{starts_length}

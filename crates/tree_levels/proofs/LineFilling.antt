@@ -29,7 +29,8 @@ module _ (w : ℕ) (es ms us : List ℕ) (n : ℕ) where
   pub starts_length : (i : ℕ) → length (start_lines w es ms us n i) ≡ length (start_slots es us n i)
   unfolding start_lines
   starts_length i =
-      insert_all_length by_line [] (map (line_at w ms us n) (start_slots es us n i)) ∙ (let e = length-map (start_slots es us n i) (line_at w ms us n) in omega arith)
+      insert_all_length by_line [] (map (line_at w ms us n) (start_slots es us n i))
+          ∙ (let e = length-map (start_slots es us n i) (line_at w ms us n) in omega arith)
 
   pub starts_none : start_lines w es ms us n 0 ≡ []
   unfolding start_lines
@@ -84,13 +85,15 @@ module _ (w : ℕ) (es ms us : List ℕ) (n used : ℕ) (old : List ℕ) (a : �
   }
 
   module _ (i m : ℕ) (out : List ℕ) (f : LinesFilled w es ms us n used old a i m out) where
-    pub filled_no : (k : ℕ) (next : List ℕ) → eqb (root_of es i) i && starts_at us n i ≡ false → k ≡ m → next ≡ out → LinesFilled w es ms us n used old a (i + 1) k next
+    pub filled_no : (k : ℕ) (next : List ℕ) → eqb (root_of es i) i && starts_at us n i ≡ false → k ≡ m → next ≡ out
+        → LinesFilled w es ms us n used old a (i + 1) k next
     filled_no k next e g h = record {
       count = g ∙ f.count ∙ ap (λ (j : ℕ). a + j) (sym (tally_no es us n i e));
       bound = omega (arith, f.bound);
       bytes = λ X rest p l q.
           h ∙ f.bytes X rest p l q
-          ∙ ap₂ (λ (Z : List Line) (j : ℕ). tree_bytes X ++ tree_bytes Z ++ drop (j * line_length) rest) (sym (starts_no w es ms us n i e)) (sym (tally_no es us n i e));
+          ∙ ap₂ (λ (Z : List Line) (j : ℕ). tree_bytes X ++ tree_bytes Z ++ drop (j * line_length) rest) (sym (starts_no w es ms us n i e))
+              (sym (tally_no es us n i e));
       fits = λ z p. f.fits z (subst (λ (Z : List Line). z ∈ Z) (starts_no w es ms us n i e) p);
       long = ap length h ∙ f.long;
     }
@@ -134,4 +137,5 @@ module _ (w : ℕ) (es ms us : List ℕ) (n used : ℕ) (old : List ℕ) (a : �
             (length-append X old_lines ∙ ap₂ (λ (x y : ℕ). x + y) l (starts_length w es ms us n i) ∙ sym f.count) (length-take-le line_length R room) f.fits
             ∙ ap₂ (λ (Z : List Line) (t : List ℕ). tree_bytes X ++ tree_bytes Z ++ t) (sym more)
             (drop-drop line_length (c * line_length) rest
-            ∙ ap (λ (x : ℕ). drop x rest) (let z : c * line_length + line_length ≡ length (start_slots es us n (i + 1)) * line_length = omega (arith, tally_yes es us n i e) in z))
+            ∙ ap (λ (x : ℕ). drop x rest)
+                (let z : c * line_length + line_length ≡ length (start_slots es us n (i + 1)) * line_length = omega (arith, tally_yes es us n i e) in z))

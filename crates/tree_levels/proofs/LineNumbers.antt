@@ -72,7 +72,8 @@ module _ (es ms us : List ℕ) where
   went_none old n f u X rest e l = e
 
   module _ (f : ℕ → ℕ) (i : ℕ) where
-    pub into_yes : absorbed es us i ≡ true → went_into es ms us f (suc i) ≡ changed (went_into es ms us f i) (number_at ms (suc i)) (number_at ms (suc (root_of es i)))
+    pub into_yes : absorbed es us i ≡ true
+        → went_into es ms us f (suc i) ≡ changed (went_into es ms us f i) (number_at ms (suc i)) (number_at ms (suc (root_of es i)))
     unfolding went_into
     into_yes e = rw (went_into, e)
 

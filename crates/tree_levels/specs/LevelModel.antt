@@ -1,6 +1,7 @@
 -- Model of the code, step by step on lists: marks at the level's end, lines in their places, their numbers, the lines that they go into, and the
 -- unions that they grew to. What these steps give is proved of them (proofs/). Assumes nothing.
-use Rattle.std.specs.Prelude.{◌≡◌, Bool, true, false, cond, not, ◌&&◌, ◌||◌, List, [], ◌++◌, map, ℕ, zero, suc, ◌+◌, ◌*◌, ◌%◌, ◌≤◌, ◌^◌, eqb, leb, ltb, length, drop}
+use Rattle.std.specs.Prelude.{◌≡◌, Bool, true, false, cond, not, ◌&&◌, ◌||◌, List, [], ◌++◌, map, ℕ, zero, suc, ◌+◌, ◌*◌, ◌%◌, ◌≤◌, ◌^◌, eqb, leb, ltb}
+use Rattle.std.specs.Prelude.{length, drop}
 use Rattle.sets.specs.Lists.{keep, insert_all}
 use Rattle.sets.specs.Sets.{before}
 use Rattle.sets.specs.Value.{row, store, number_at}

@@ -40,7 +40,8 @@ level_on s ok j r t l e f =
       first,
     )
 
-module _ (s : List ℕ) (k : ℕ) (T : Tables) (ok : check_call s k T ≡ accepted) (fits : slots (parts s) k (cliques (links_of s) (parts s) k) ≤ room T.entries) where
+module _ (s : List ℕ) (k : ℕ) (T : Tables) (ok : check_call s k T ≡ accepted)
+    (fits : slots (parts s) k (cliques (links_of s) (parts s) k) ≤ room T.entries) where
   abbrev p : ℕ
   p = parts s
 
@@ -90,7 +91,8 @@ module _ (s : List ℕ) (k : ℕ) (T : Tables) (ok : check_call s k T ≡ accept
       subst (λ (X : List ℕ). Counting L p k 0 X U 0) (sym er)
       (subst (λ (X : Tables). Counting L p k 0 no_rows X 0) (sym eu) record { classes = []; starts = []; passed = passed_none; count = refl })
 
-  pub counting_last : (i : ℕ) (R : List ℕ) (W : Tables) (c : ℕ) → links s ≤ i → Counting (links_of s) (parts s) k i R W c → c ≡ length (tree (links_of s) (parts s) k)
+  pub counting_last : (i : ℕ) (R : List ℕ) (W : Tables) (c : ℕ) → links s ≤ i → Counting (links_of s) (parts s) k i R W c
+      → c ≡ length (tree (links_of s) (parts s) k)
   counting_last i R W c l = counting_end L p k i R W c (omega (arith, links_length s))
 
   -- ---- the second pass
@@ -115,7 +117,8 @@ module _ (s : List ℕ) (k : ℕ) (T : Tables) (ok : check_call s k T ≡ accept
         })
 
     -- the lines so far fit
-    pub writing_bound : (i : ℕ) (R : List ℕ) (W : Tables) (n : ℕ) (out : List ℕ) → Writing (links_of s) (parts s) k i R W old n out → n * line_length ≤ length old
+    pub writing_bound : (i : ℕ) (R : List ℕ) (W : Tables) (n : ℕ) (out : List ℕ) → Writing (links_of s) (parts s) k i R W old n out
+        → n * line_length ≤ length old
     writing_bound i R W n out h = omega (arith, writing_few L p k i R W old n out h, writing_room)
 
     pub writing_last : (i : ℕ) (R : List ℕ) (W : Tables) (n : ℕ) (out : List ℕ) → links s ≤ i → Writing (links_of s) (parts s) k i R W old n out

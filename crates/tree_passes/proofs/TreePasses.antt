@@ -66,7 +66,8 @@ past_same L p k T U A B S X Z W g h e = front_same g.past h.past W (ap (λ (l : 
 pub past_all : (L : List Link) (p k : ℕ) (T : Tables) (A : List Rooted) (S : List Start) (W : List ℕ) (g : Grown L p k T A S W) → W ≡ [] → g.past ≡ levels L
 past_all L p k T A S W g e = sym (g.falling ∙ ap (λ (Z : List ℕ). g.past ++ Z) e ∙ append-nil g.past)
 
-module _ (L : List Link) (p k i j w : ℕ) (v : NextLevel L p k i j w) (R : List ℕ) (T : Tables) (A : List Rooted) (S : List Start) (h : Passed L p k i R T A S) where
+module _ (L : List Link) (p k i j w : ℕ) (v : NextLevel L p k i j w) (R : List ℕ) (T : Tables) (A : List Rooted) (S : List Start)
+    (h : Passed L p k i R T A S) where
   abbrev U : Tables
   U = with_links L k i j R T
 
@@ -170,13 +171,17 @@ counting_step L p k i j w v R T c h U R' us' c' eu er ec es =
     (subst⁻¹ (λ (X : Tables). (c' ≡ c + starts_in T.used X)
     → Counting L p k j (rows_with R (drop i (take j L))) (emptied X X.smallest (join_counts X.entries X.unions T.used)) c') eu after ec))
   where
-    ends : SameEnds (with_links L k i j R T) (with_links L k i j R T).smallest (join_counts (with_links L k i j R T).entries (with_links L k i j R T).unions T.used)
+    ends : SameEnds (with_links L k i j R T) (with_links L k i j R T).smallest
+        (join_counts (with_links L k i j R T).entries (with_links L k i j R T).unions T.used)
     ends =
-        counts_ends T (with_links L k i j R T) (level_turned L p k i j w v R T h.classes h.starts h.passed) h.passed.grown.matches.number h.classes h.passed.grown.matches.classes
+        counts_ends T (with_links L k i j R T) (level_turned L p k i j w v R T h.classes h.starts h.passed) h.passed.grown.matches.number h.classes
+            h.passed.grown.matches.classes
         (level_bounded L p k i j w v R T h.classes h.starts h.passed)
 
     after : c' ≡ c + starts_in T.used (with_links L k i j R T)
-        → Counting L p k j (rows_with R (drop i (take j L))) (emptied (with_links L k i j R T) (with_links L k i j R T).smallest (join_counts (with_links L k i j R T).entries (with_links L k i j R T).unions T.used)) c'
+        → Counting L p k j (rows_with R (drop i (take j L)))
+            (emptied (with_links L k i j R T) (with_links L k i j R T).smallest
+            (join_counts (with_links L k i j R T).entries (with_links L k i j R T).unions T.used)) c'
     after e = record {
       classes = rooted_now w (length h.starts) (with_links L k i j R T) h.classes;
       starts = starts_now w (with_links L k i j R T) h.classes h.starts;

@@ -28,7 +28,8 @@ use Rattle.tree_theory.proofs.RootsLines.{shown_whole, lines_shown}
 use Rattle.tree_theory.proofs.LevelStep.{with_slots, level_numbers, slots_olds, slots_news, step_into, step_ends, step_stored}
 use Rattle.tree_theory.proofs.LinesGrown.{step_wholes}
 use Rattle.tree_theory.proofs.LevelKept.{SameEnds, emptied}
-use Rattle.tree_passes.proofs.TreePasses.{NextLevel, Passed, with_links, starts_in, past_same, past_all, level_turned, level_bounded, level_shows, level_positive, level_grown, level_past, level_passed, level_count}
+use Rattle.tree_passes.proofs.TreePasses.{NextLevel, Passed, with_links, starts_in, past_same, past_all, level_turned, level_bounded, level_shows}
+use Rattle.tree_passes.proofs.TreePasses.{level_positive, level_grown, level_past, level_passed, level_count}
 
 -- before link i, in the tables T, with n lines in the output, which held `old` before
 pub record Writing (L : List Link) (p k i : ℕ) (R : List ℕ) (T : Tables) (old : List ℕ) (n : ℕ) (out : List ℕ) : Type 0 where
@@ -133,7 +134,8 @@ module _ (L : List Link) (p k i j w : ℕ) (v : NextLevel L p k i j w) (old : Li
   unfolding rest
   room_left = omega (arith, length-drop (length S * line_length) old, within, total, enough)
 
-  module _ (ms us next : List ℕ) (level : WritesLevel T.used U.used w (length S) U.entries U.smallest (join_counts U.entries U.unions T.used) out ms us next) where
+  module _ (ms us next : List ℕ)
+      (level : WritesLevel T.used U.used w (length S) U.entries U.smallest (join_counts U.entries U.unions T.used) out ms us next) where
     wrote : (ms ≡ (N (length X)).smallest) × (us ≡ wiped U.entries (N (length X)).unions U.used)
         × (next ≡ tree_bytes (lines_with (went_into U.entries (N (length X)).smallest (N (length X)).unions (N (length X)).into T.used)
         (grew_to U.entries (N (length X)).smallest (N (length X)).unions u U.used) 1 (S ++ X)) ++ drop (length X * line_length) rest)
@@ -174,10 +176,12 @@ module _ (L : List Link) (p k i j w : ℕ) (v : NextLevel L p k i j w) (old : Li
     unfolding rest
     left_over =
         drop-drop (length X * line_length) (length S * line_length) old
-        ∙ ap (λ (x : ℕ). drop x old) (let z : length S * line_length + length X * line_length ≡ length (S ++ X) * line_length = omega (arith, ap (λ (y : ℕ). y * line_length) total) in z)
+        ∙ ap (λ (x : ℕ). drop x old)
+            (let z : length S * line_length + length X * line_length ≡ length (S ++ X) * line_length = omega (arith, ap (λ (y : ℕ). y * line_length) total) in z)
 
     written : (n' : ℕ) → n' ≡ n + starts_in T.used U
-        → Writing L p k j (rows_with R (drop i (take j L))) (emptied U (level_numbers T.used w U A S).smallest (level_numbers T.used w U A S).unions) old n' next
+        → Writing L p k j (rows_with R (drop i (take j L))) (emptied U (level_numbers T.used w U A S).smallest (level_numbers T.used w U A S).unions) old n'
+            next
     unfolding rooted_now
     written n' e = record {
       classes = rooted_now w (length S) U A;
@@ -197,7 +201,8 @@ module _ (L : List Link) (p k i j w : ℕ) (v : NextLevel L p k i j w) (old : Li
         → Writing L p k j (rows_with R (drop i (take j L))) (tables U.sets U.entries ms us U.used) old n' next
     written_next n' e =
         subst⁻¹ (λ (x : List ℕ). Writing L p k j (rows_with R (drop i (take j L))) (tables U.sets U.entries x us U.used) old n' next) small_is
-        (subst⁻¹ (λ (x : List ℕ). Writing L p k j (rows_with R (drop i (take j L))) (tables U.sets U.entries (level_numbers T.used w U A S).smallest x U.used) old n' next) union_is
+        (subst⁻¹ (λ (x : List ℕ). Writing L p k j (rows_with R (drop i (take j L)))
+            (tables U.sets U.entries (level_numbers T.used w U A S).smallest x U.used) old n' next) union_is
         (written n' e))
 
 -- with the tables and rows as the code has them
@@ -215,7 +220,8 @@ writing_step L p k i j w v old enough small R T n out h U R' ms us next n' w' eu
     (subst (λ (x : ℕ). WritesLevel T.used U.used x (length h.starts) U.entries U.smallest (join_counts U.entries U.unions T.used) out ms us next) ew
     (subst (λ (x : ℕ). WritesLevel T.used U.used w' x U.entries U.smallest (join_counts U.entries U.unions T.used) out ms us next) h.count level)))
 
-pub writing_few : (L : List Link) (p k i : ℕ) (R : List ℕ) (T : Tables) (old : List ℕ) (n : ℕ) (out : List ℕ) → Writing L p k i R T old n out → n ≤ length (tree L p k)
+pub writing_few : (L : List Link) (p k i : ℕ) (R : List ℕ) (T : Tables) (old : List ℕ) (n : ℕ) (out : List ℕ) → Writing L p k i R T old n out
+    → n ≤ length (tree L p k)
 writing_few L p k i R T old n out h = omega (arith, h.count, grown_fits L p k T h.classes h.starts (levels (drop i L)) h.passed.grown)
 
 pub writing_end : (L : List Link) (p k i : ℕ) (R : List ℕ) (T : Tables) (old : List ℕ) (n : ℕ) (out : List ℕ) → length L ≤ i → Writing L p k i R T old n out

@@ -20,7 +20,8 @@ use Rattle.slots.specs.Tables.{Tables}
 use Rattle.slots_theory.specs.Shows.{Shows}
 use Rattle.slots_theory.proofs.Free.{Stays}
 use Rattle.tree_theory.specs.Model.{Rooted, Begun, begun_lines, rooted_now, starts_now}
-use Rattle.tree_theory.proofs.RootsLines.{SameStarts, same_none, same_append, same_length, SameSplit, same_split, goes_same, goes_none, lines_shown, tree_same, tree_length}
+use Rattle.tree_theory.proofs.RootsLines.{SameStarts, same_none, same_append, same_length, SameSplit, same_split, goes_same, goes_none, lines_shown}
+use Rattle.tree_theory.proofs.RootsLines.{tree_same, tree_length}
 use Rattle.tree_theory.proofs.RootsLevel.{Matches, matches_none, Carried, carried_shown, step_starts, step_matches}
 use Rattle.tree_theory.proofs.RootsNumbers.{Within, joins_from, rooted_within}
 use Rattle.tree_theory.proofs.RootsRest.{cliques_take, cliques_front, rest_further, levels_rest}

@@ -15,7 +15,8 @@ use Rattle.sets.specs.Value.{width, rows, row, store, number_at}
 use Rattle.sets.proofs.Tests.{never, split, lt_or_le, same_or_not, and_intro, and_left, and_right, no_and}
 use Rattle.sets.proofs.Tables.{row_store, row_other}
 use Rattle.sets.proofs.RowNumbers.{small_fits, number_is}
-use Rattle.sets.proofs.ListLaws.{Distinct, Holds, keep_at, keep_of, keep_same, keep_le, keep_all, keep_none, keep_map, keep_distinct, keep_below_yes, keep_below_no, below_of, below_at, below_length, distinct_same, rising_distinct, below_rising, number_order}
+use Rattle.sets.proofs.ListLaws.{Distinct, Holds, keep_at, keep_of, keep_same, keep_le, keep_all, keep_none, keep_map, keep_distinct, keep_below_yes}
+use Rattle.sets.proofs.ListLaws.{keep_below_no, below_of, below_at, below_length, distinct_same, rising_distinct, below_rising, number_order}
 use Rattle.percolation.specs.Ranges.{most_slots}
 use Rattle.slots.specs.Tables.{Tables, room, root_of}
 use Rattle.joining.proofs.Follow.{root_le, root_twice}
@@ -122,10 +123,13 @@ module _ (es us : List ℕ) where
       go (inl t) (inl s) ih =
           let q : root_of es i ≡ r = eqb-true (root_of es i) r s in
           let c = tally i r in
-          let v : more_joins (number_at J (suc r)) ≡ joins_of_lem (suc c) = ap more_joins (number_is J (suc r) (joins_of_lem c) ih (few c (omega (arith, tally_le i r)))) ∙ joins_suc c (omega (arith, tally_le i r)) in
+          let v : more_joins (number_at J (suc r)) ≡ joins_of_lem (suc c) = ap more_joins
+              (number_is J (suc r) (joins_of_lem c) ih (few c (omega (arith, tally_le i r)))) ∙ joins_suc c (omega (arith, tally_le i r)) in
           let more : tally (suc i) r ≡ suc c =
-          ap length (keep_below_yes P i (and_intro (absorbed es us i) (eqb (root_of es i) r) t s)) ∙ length-append (keep P (below i)) (i ∷ []) ∙ (let z : c + 1 ≡ suc c = omega arith in z) in
-          let small : more_joins (number_at J (suc r)) < 2 ^ width = subst⁻¹ (λ (x : ℕ). x < 2 ^ width) v (small_fits (suc (suc c)) (omega (arith, tally_le i r))) in
+          ap length (keep_below_yes P i (and_intro (absorbed es us i) (eqb (root_of es i) r) t s)) ∙ length-append (keep P (below i)) (i ∷ [])
+              ∙ (let z : c + 1 ≡ suc c = omega arith in z) in
+          let small : more_joins (number_at J (suc r)) < 2 ^ width = subst⁻¹ (λ (x : ℕ). x < 2 ^ width) v
+              (small_fits (suc (suc c)) (omega (arith, tally_le i r))) in
           ap (λ (x : List ℕ). row x (suc r)) (swept_yes (absorbed es) (λ j. suc (root_of es j)) more_joins us i (counts_absorbed i ∙ t))
           ∙ ap (λ (x : ℕ). row (store J (suc x) (more_joins (number_at J (suc x)))) (suc r)) q
           ∙ row_store J (suc r) (more_joins (number_at J (suc r))) (omega (arith, counts_rows i)) small

@@ -3,7 +3,7 @@ use mathlib.Core.Path.{◌≡◌, refl, sym, ap, ◌∙◌, subst⁻¹}
 use mathlib.Core.Logic.{◌⊎◌, inl, inr}
 use mathlib.Core.Bool.{true}
 use mathlib.Core.List.Memᴰ
-use mathlib.Core.List.{List, [], ◌∷◌, ◌++◌, map, append_assoc}
+use mathlib.Core.List.{List, ◌∷◌, ◌++◌, map, append_assoc}
 use Prim.Native.Nat.{ℕ, suc, ◌+◌, ◌<◌}
 use native.Mathlib.Omega.{arith}
 use lib.Dec.{eqb}
@@ -66,7 +66,8 @@ module _ (w : ℕ) (U : Tables) (A : List Rooted) (S : List Start) where
 
   module _ (L : List Link) (p k : ℕ) (W : List ℕ) (g : Grown L p k U (rooted_now w (length S) U A) (starts_now w U A S) W) where
     -- one that a new line joins goes into that
-    pub goes_new : (j : ℕ) → j < length (slots_in (begun_lines w U A)) → (x : Rooted) → x ∈ A → root_of U.entries x.slot ≡ get_or (slots_in (begun_lines w U A)) j 0
+    pub goes_new : (j : ℕ) → j < length (slots_in (begun_lines w U A)) → (x : Rooted) → x ∈ A
+        → root_of U.entries x.slot ≡ get_or (slots_in (begun_lines w U A)) j 0
         → goes_into x.number 1 (starts_now w U A S) ≡ suc (length S + j)
     goes_new j l x m e =
         let d : Begun = record { slot = 0; start = no_start } in
@@ -75,7 +76,8 @@ module _ (w : ℕ) (U : Tables) (A : List Rooted) (S : List Start) where
         let X1 = map (λ (c : Begun). c.start) (take j B) in
         let X2 = map (λ (c : Begun). c.start) (drop (suc j) B) in
         let cut : S ++ X ≡ (S ++ X1) ++ (b.start ∷ X2) =
-        ap (λ (C : List Begun). S ++ map (λ (c : Begun). c.start) C) (split_at B j d lb) ∙ ap (λ (Y : List Start). S ++ Y) (map_append (λ (c : Begun). c.start) (take j B) (b ∷ drop (suc j) B))
+        ap (λ (C : List Begun). S ++ map (λ (c : Begun). c.start) C) (split_at B j d lb)
+            ∙ ap (λ (Y : List Start). S ++ Y) (map_append (λ (c : Begun). c.start) (take j B) (b ∷ drop (suc j) B))
         ∙ sym (append_assoc S X1 (b.start ∷ X2)) in
         let i = joined_by_lem j d lb x m e in
         let free = (grown_joins L p k U (rooted_now w (length S) U A) (S ++ X) W g (S ++ X1) X2 b.start cut x.number i).2 in

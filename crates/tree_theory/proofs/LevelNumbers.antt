@@ -259,7 +259,8 @@ module _ (n : ℕ) (f G : ℕ → ℕ) (es ms us : List ℕ) (g : ℕ → ℕ) (
             done = λ j k a. ap (λ (q : ℕ → ℕ). q (number_at ms (suc j))) e ∙ at j k a (lt_or_le j i);
           }
         where
-          at : (j : ℕ) → j < suc i → absorbed es us j ≡ true → (j < i) ⊎ (i ≤ j) → changed h (number_at ms (suc i)) (number_at ms (suc (root_of es i))) (number_at ms (suc j)) ≡ G (number_at ms (suc j))
+          at : (j : ℕ) → j < suc i → absorbed es us j ≡ true → (j < i) ⊎ (i ≤ j)
+              → changed h (number_at ms (suc i)) (number_at ms (suc (root_of es i))) (number_at ms (suc j)) ≡ G (number_at ms (suc j))
           at j k a (inl b) = done_changed n f G h (number_at ms (suc i)) (number_at ms (suc (root_of es i))) (number_at ms (suc j)) (w.done j b a) (own i l t)
           at j k a (inr b) =
               let z : j ≡ i = omega arith in

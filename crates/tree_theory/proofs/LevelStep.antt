@@ -27,7 +27,8 @@ use Rattle.tree_theory.specs.Model.{Rooted, rooted, Begun, ending_at, starts_lin
 use Rattle.tree_levels.specs.LevelModel.{absorbed, join_counts, Numbering, numbers_of, went_into}
 use Rattle.tree_theory.proofs.ByRoots.{Grown}
 use Rattle.tree_levels.proofs.LevelSteps.{absorbed_end}
-use Rattle.tree_theory.proofs.ClassCounts.{Turned, was_end, after_empty, absorbed_was, absorbed_is, absorbed_lower, absorbed_row, ending_old, ending_new, counts_other, counts_length, counts_rows, counts_bounded, count_end, turned_room, turned_rows}
+use Rattle.tree_theory.proofs.ClassCounts.{Turned, was_end, after_empty, absorbed_was, absorbed_is, absorbed_lower, absorbed_row, ending_old, ending_new}
+use Rattle.tree_theory.proofs.ClassCounts.{counts_other, counts_length, counts_rows, counts_bounded, count_end, turned_room, turned_rows}
 use Rattle.tree_theory.proofs.UnionsKept.{Bounded}
 use Rattle.tree_theory.proofs.LevelKept.{SameEnds}
 use Rattle.tree_theory.proofs.BegunSlots.{slots_in, begun_distinct, begun_slot, begun_place, begun_number}
@@ -175,7 +176,8 @@ module _ (L : List Link) (p k w : ℕ) (T U : Tables) (h : Turned T U) (number :
       let b : q < T.used = omega (arith, root_le es i) in
       let own : root_of es q ≡ q = root_twice es i in
       let one = member_length (keep (λ j. absorbed es us j && eqb (root_of es j) q) (below T.used))
-      (keep_at (λ j. absorbed es us j && eqb (root_of es j) q) (below T.used) (below_at i T.used l) (and_intro (absorbed es us i) (eqb q q) t (eq-eqb q q refl))) in
+      (keep_at (λ j. absorbed es us j && eqb (root_of es j) q) (below T.used) (below_at i T.used l)
+          (and_intro (absorbed es us i) (eqb q q) t (eq-eqb q q refl))) in
       let e = ending_old T U h number A classes q b own in
       ap not (ne_eqb (length (ending_at es A q)) 1 (λ z. omega (arith, z, e, one)))
 
@@ -231,7 +233,8 @@ module _ (L : List Link) (p k w : ℕ) (T U : Tables) (h : Turned T U) (number :
 
     number2 : number_at ms2 (suc i) ≡ number i
     number2 =
-        number_is ms2 (suc i) (number i) (number_kept i l end0 (λ e. omega (arith, e, absorbed_lower es us2 i t))) (omega (arith, (numbers_in i l end0).1, many))
+        number_is ms2 (suc i) (number i) (number_kept i l end0 (λ e. omega (arith, e, absorbed_lower es us2 i t)))
+            (omega (arith, (numbers_in i l end0).1, many))
 
     went_in : number_at ms2 (suc i) ≤ n
     went_in = omega (arith, number2, (numbers_in i l end0).1)
@@ -350,15 +353,19 @@ module _ (L : List Link) (p k w : ℕ) (T U : Tables) (h : Turned T U) (number :
       ≡ cond (starts_line U.entries A r) (line_number r (length S) (begun_lines w U A)) (only_number (ending_at U.entries A r))
   step_stored r l e = go (split (starts_line es A r))
     where
-      go : (starts_line es A r ≡ true) ⊎ (starts_line es A r ≡ false) → row ms2 (suc r) ≡ cond (starts_line es A r) (line_number r n B) (only_number (ending_at es A r))
+      go : (starts_line es A r ≡ true) ⊎ (starts_line es A r ≡ false)
+          → row ms2 (suc r) ≡ cond (starts_line es A r) (line_number r n B) (only_number (ending_at es A r))
       go (inl t) =
           let j = place_of r l e t in
           ap (λ (x : ℕ). row ms2 (suc x)) (sym j.2) ∙ given.smallest j.0 j.1
-          ∙ sym (ap (λ (x : Bool). cond x (line_number r n B) (only_number (ending_at es A r))) t ∙ ap (λ (x : ℕ). line_number x n B) (sym j.2) ∙ begun_number w U A n j.0 j.1)
+          ∙ sym (ap (λ (x : Bool). cond x (line_number r n B) (only_number (ending_at es A r))) t ∙ ap (λ (x : ℕ). line_number x n B) (sym j.2)
+              ∙ begun_number w U A n j.0 j.1)
       go (inr t) =
-          given.others (suc r) (λ j a z. never (starts_line es A r) (subst⁻¹ (λ (x : ℕ). starts_line es A x ≡ true) (let y : r ≡ get_or sl j 0 = omega (arith, z) in y) (at_slot j a).2) t)
+          given.others (suc r) (λ j a z. never (starts_line es A r)
+              (subst⁻¹ (λ (x : ℕ). starts_line es A x ≡ true) (let y : r ≡ get_or sl j 0 = omega (arith, z) in y) (at_slot j a).2) t)
           ∙ still_there r going.0 going.1
-          ∙ sym (ap (λ (x : Bool). cond x (line_number r n B) (only_number (ending_at es A r))) t ∙ only_one (ending_at es A r) (rooted r (number r)) (ends_here going.0 going.1) (one_only r t))
+          ∙ sym (ap (λ (x : Bool). cond x (line_number r n B) (only_number (ending_at es A r))) t
+              ∙ only_one (ending_at es A r) (rooted r (number r)) (ends_here going.0 going.1) (one_only r t))
         where
           one_only : (r : ℕ) → starts_line es A r ≡ false → length (ending_at es A r) ≡ 1
           one_only = only_ending es A

@@ -13,7 +13,8 @@ use borrow.Author.Tests.{eqb-true, ne_eqb, ltb-true}
 use Rattle.sets.specs.Lists.{◌∈◌, keep}
 use Rattle.sets.specs.Sets.{has, meet, out, size, sub, before, members, sets_of}
 use Rattle.sets.proofs.Tests.{never, split, same_or_not}
-use Rattle.sets.proofs.ListLaws.{Holds, Rising, Distinct, keep_yes, keep_no, keep_at, keep_of, keep_append, keep_distinct, keep_rising, append_distinct, map_distinct, distinct_le, rising_distinct, number_order, distinct_map}
+use Rattle.sets.proofs.ListLaws.{Holds, Rising, Distinct, keep_yes, keep_no, keep_at, keep_of, keep_append, keep_distinct, keep_rising, append_distinct}
+use Rattle.sets.proofs.ListLaws.{map_distinct, distinct_le, rising_distinct, number_order, distinct_map}
 use Rattle.sets.proofs.Laws.{out_sub, sub_size, sub_has}
 use Rattle.sets.proofs.Members.{in_member, members_rising, members_length, sets_of_lem}
 use Rattle.sets.proofs.Parts.{sub_both, out_keeps, out_lacks, size_less}
@@ -138,7 +139,8 @@ module _ (L : List Link) (p k w : ℕ) (P : List Branch) where
   start_class : (n : ℕ) (C : List Community) (y : Start) → y ∈ (level_of L p k w P n C).starts → Of C y
   unfolding level_of
   start_class n [] y m = absurd (Memᴰ.not-nil m)
-  start_class n (c ∷ C) y m = go (held_by L p k w P c) refl (level_of L p k w P n C) (level_of L p k w P (suc n) C) (start_class n C y) (start_class (suc n) C y) m
+  start_class n (c ∷ C) y m = go (held_by L p k w P c) refl (level_of L p k w P n C) (level_of L p k w P (suc n) C) (start_class n C y)
+      (start_class (suc n) C y) m
     where
       later : Of C y → Of (c ∷ C) y
       later r = (r.0, Memᴰ.tail r.1, r.2, r.3)
@@ -268,7 +270,8 @@ module _ (p : ℕ) where
       (ap (λ (z : ℕ). sub z a) (sym q.2) ∙ out_sub q.0 a, ap (λ (z : ℕ). suc (size z)) (sym q.2) ∙ size_less q.0 a (in_member p a q.0 q.1).1)
 
   subs_distinct : (a : ℕ) → Distinct (subs a)
-  subs_distinct a = map_distinct (λ q. out q a) (members p a) (rising_distinct ltb number_order (members p a) (members_rising p a)) (λ q r i j e. go q r i j e (same_or_not q r))
+  subs_distinct a = map_distinct (λ q. out q a) (members p a) (rising_distinct ltb number_order (members p a) (members_rising p a))
+      (λ q r i j e. go q r i j e (same_or_not q r))
     where
       go : (q r : ℕ) → q ∈ members p a → r ∈ members p a → out q a ≡ out r a → (q ≡ r) ⊎ (q ≡ r → ⊥) → q ≡ r
       go q r i j e (inl s) = s
@@ -279,7 +282,8 @@ module _ (p : ℕ) where
 
 module _ (L : List Link) (p k : ℕ) where
   -- cliques of a level that share a slot are joined there
-  shared : (w s a b : ℕ) → a ∈ family L p k w → b ∈ family L p k w → sub s a ≡ true → sub s b ≡ true → suc (size s) ≡ k → Chain (adjacent k) (family L p k w) a b
+  shared : (w s a b : ℕ) → a ∈ family L p k w → b ∈ family L p k w → sub s a ≡ true → sub s b ≡ true → suc (size s) ≡ k
+      → Chain (adjacent k) (family L p k w) a b
   shared w s a b m n i j z =
       near k a b (family_sets L p k w a m).0 (family_sets L p k w b n).0 (omega (arith, sub_size s (meet a b) (sub_both s a b i j))) m n
 
@@ -352,7 +356,8 @@ module _ (L : List Link) (p k : ℕ) where
   fresh [] u P n r at y m t s a i z h j = Memᴰ.not-nil (rw (starts_end L p k P n) at m)
   fresh (w ∷ W) u P n r at y m t s a i z h j =
       go (Memᴰ.append_cases (level_at_lem L p k w P n).starts (rw (starts_next L p k w W P n) at m))
-      (λ x. fresh W w (level_at_lem L p k w P n).branches (n + length (level_at_lem L p k w P n).starts) r.1 (level_at w P n) y x t s a i z (family_mono L p k u w le a h) j)
+      (λ x. fresh W w (level_at_lem L p k w P n).branches (n + length (level_at_lem L p k w P n).starts) r.1 (level_at w P n) y x t s a i z
+          (family_mono L p k u w le a h) j)
     where
       le : w ≤ u
       le = omega (arith, ltb-true w u (r.0 w (Memᴰ.head refl)))
@@ -368,7 +373,8 @@ module _ (L : List Link) (p k : ℕ) where
   level_slots : (w : ℕ) (P : List Branch) (n : ℕ) → Distinct (spread slots_at (leaves (level_at_lem L p k w P n).starts))
   level_slots w P n =
       spread_distinct slots_at by_class (leaves X)
-      (keep_rising by_class leaf X (starts_rising L p k w P n (classes_at L p k w) (communities_rising k (family L p k w)))) (λ x m. subs_distinct p x.small) apart
+      (keep_rising by_class leaf X (starts_rising L p k w P n (classes_at L p k w) (communities_rising k (family L p k w)))) (λ x m. subs_distinct p x.small)
+          apart
     where
       X : List Start
       X = (level_at_lem L p k w P n).starts

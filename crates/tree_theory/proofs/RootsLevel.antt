@@ -14,7 +14,8 @@ use Rattle.sets.specs.Lists.{◌∈◌, keep, below}
 use Rattle.sets.specs.Sets.{before}
 use Rattle.sets.specs.Value.{row}
 use Rattle.sets.proofs.Tests.{iff}
-use Rattle.sets.proofs.ListLaws.{Holds, Rising, Distinct, keep_yes, keep_no, keep_at, keep_of, keep_same, keep_map, keep_distinct, keep_rising, distinct_same, rising_distinct, rising_map, map_on, distinct_map, map_rising}
+use Rattle.sets.proofs.ListLaws.{Holds, Rising, Distinct, keep_yes, keep_no, keep_at, keep_of, keep_same, keep_map, keep_distinct, keep_rising}
+use Rattle.sets.proofs.ListLaws.{distinct_same, rising_distinct, rising_map, map_on, distinct_map, map_rising}
 use Rattle.sets.proofs.Order.{set_order}
 use Rattle.sets.proofs.Insertion.{insert_all_ranked}
 use Rattle.percolation.specs.Percolate.{Community, joined, communities}

@@ -27,7 +27,8 @@ unfolding line_number
 number_within r n [] m e = absurd (Memᴰ.not-nil m)
 number_within r n (c ∷ B) {b} m e = go (split (eqb c.slot r)) (Memᴰ.cases_cons m) (λ i. number_within r (suc n) B i e)
   where
-    go : (eqb c.slot r ≡ true) ⊎ (eqb c.slot r ≡ false) → (b ≡ c) ⊎ b ∈ B → (b ∈ B → (suc (suc n) ≤ line_number r (suc n) B) × (line_number r (suc n) B ≤ suc n + length B))
+    go : (eqb c.slot r ≡ true) ⊎ (eqb c.slot r ≡ false) → (b ≡ c) ⊎ b ∈ B
+        → (b ∈ B → (suc (suc n) ≤ line_number r (suc n) B) × (line_number r (suc n) B ≤ suc n + length B))
         → (suc n ≤ cond (eqb c.slot r) (suc n) (line_number r (suc n) B)) × (cond (eqb c.slot r) (suc n) (line_number r (suc n) B) ≤ n + suc (length B))
     go (inl t) i rest = rw t (omega arith, omega arith)
     go (inr t) (inl d) rest =
@@ -42,14 +43,16 @@ module _ (w : ℕ) (T : Tables) (A : List Rooted) where
   pub begun_of : (b : Begun) → b ∈ begun_lines w T A → (r : ℕ) × r ∈ roots_in T × (starts_line T.entries A r ≡ true) × (begun_at w T A r ≡ b)
   unfolding begun_lines
   begun_of b m =
-      let q = Memᴰ.of_map start_at (keep (starts_line T.entries A) (roots_in T)) (insert_all_from by_begun (map start_at (keep (starts_line T.entries A) (roots_in T))) m) in
+      let q = Memᴰ.of_map start_at (keep (starts_line T.entries A) (roots_in T))
+          (insert_all_from by_begun (map start_at (keep (starts_line T.entries A) (roots_in T))) m) in
       let h = keep_of (starts_line T.entries A) (roots_in T) q.1 in
       (q.0, h.0, h.1, q.2)
 
   pub begun_at_lem : (r : ℕ) → r ∈ roots_in T → starts_line T.entries A r ≡ true → begun_at w T A r ∈ begun_lines w T A
   unfolding begun_lines
   begun_at_lem r m t =
-      insert_all_at by_begun [] (map start_at (keep (starts_line T.entries A) (roots_in T))) (inr (Memᴰ.map start_at (keep_at (starts_line T.entries A) (roots_in T) m t)))
+      insert_all_at by_begun [] (map start_at (keep (starts_line T.entries A) (roots_in T)))
+          (inr (Memᴰ.map start_at (keep_at (starts_line T.entries A) (roots_in T) m t)))
 
   -- what a line joins are numbers of A
   pub joins_from : (b : Begun) → b ∈ begun_lines w T A → (i : ℕ) → i ∈ b.start.joins → (x : Rooted) × x ∈ A × (x.number ≡ i)

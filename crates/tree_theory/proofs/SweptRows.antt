@@ -19,7 +19,8 @@ module _ (test : List ℕ → ℕ → Bool) (place new : ℕ → ℕ) (us : List
   S i = swept test place new us i
 
   -- what holds of the rows, and stays so at each write, holds in the end
-  swept_keeps : (P : List ℕ → Type 0) (n : ℕ) → P us → ((i : ℕ) → i < n → test (swept test place new us i) i ≡ true → P (swept test place new us i) → P (swept test place new us (suc i)))
+  swept_keeps : (P : List ℕ → Type 0) (n : ℕ) → P us
+      → ((i : ℕ) → i < n → test (swept test place new us i) i ≡ true → P (swept test place new us i) → P (swept test place new us (suc i)))
       → P (swept test place new us n)
   swept_keeps P zero start more = subst⁻¹ P (swept_none test place new us) start
   swept_keeps P (suc n) start more = go (split (test (S n) n)) (swept_keeps P n start (λ i l. more i (omega arith)))
@@ -39,10 +40,12 @@ module _ (test : List ℕ → ℕ → Bool) (place new : ℕ → ℕ) (us : List
   pub swept_bounded : ((x : ℕ) → x < 2 ^ 64 → new x < 2 ^ 64) → (n : ℕ) → Bounded us → Bounded (swept test place new us n)
   swept_bounded fits n b =
       swept_keeps Bounded n b
-      (λ i l t r. subst⁻¹ Bounded (swept_yes test place new us i t) (bounded_store (S i) (place i) (new (number_at (S i) (place i))) r (small_fits _ (fits _ (number_lt (S i) (place i))))))
+      (λ i l t r. subst⁻¹ Bounded (swept_yes test place new us i t)
+          (bounded_store (S i) (place i) (new (number_at (S i) (place i))) r (small_fits _ (fits _ (number_lt (S i) (place i))))))
 
   -- a row that no slot writes
   pub swept_other : (n x : ℕ) → ((i : ℕ) → i < n → test (swept test place new us i) i ≡ true → x ≡ place i → ⊥) → row (swept test place new us n) x ≡ row us x
   swept_other n x apart =
       swept_keeps (λ xs. row xs x ≡ row us x) n refl
-      (λ i l t e. ap (λ (xs : List ℕ). row xs x) (swept_yes test place new us i t) ∙ row_other (S i) (place i) x (new (number_at (S i) (place i))) (apart i l t) ∙ e)
+      (λ i l t e. ap (λ (xs : List ℕ). row xs x) (swept_yes test place new us i t)
+          ∙ row_other (S i) (place i) x (new (number_at (S i) (place i))) (apart i l t) ∙ e)

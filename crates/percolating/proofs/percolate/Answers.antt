@@ -24,7 +24,9 @@ loop-i-preserved-then-is_strong c =
       k.smallest ∙ l.invariant.4,
       k.unions ∙ l.invariant.5,
       l.invariant.6
-          ∙ strong_yes _ _ _ _ l.i _ c.loop-i-test.true refl _ _ _ (sym (told_strong _ _ _ _ _ c.requires.1 l.i c.loop-i-test.true _ c.is_strong.ensures) ∙ c.if-is_strong.true) _ c.at-q.ensures c.take_fitting-used.ensures.result_after,
+          ∙ strong_yes _ _ _ _ l.i _ c.loop-i-test.true refl _ _ _
+              (sym (told_strong _ _ _ _ _ c.requires.1 l.i c.loop-i-test.true _ c.is_strong.ensures) ∙ c.if-is_strong.true) _ c.at-q.ensures
+              c.take_fitting-used.ensures.result_after,
     )
 
 pub loop-i-preserved : goal.loop-i-preserved
@@ -36,7 +38,9 @@ loop-i-preserved c =
       l.invariant.3,
       l.invariant.4,
       l.invariant.5,
-      l.invariant.6 ∙ ap (took_each _ _) (strong_no _ _ _ _ l.i _ c.loop-i-test.true refl (sym (told_strong _ _ _ _ _ c.requires.1 l.i c.loop-i-test.true _ c.is_strong.ensures) ∙ c.if-is_strong.false)),
+      l.invariant.6 ∙ ap (took_each _ _)
+          (strong_no _ _ _ _ l.i _ c.loop-i-test.true
+          refl (sym (told_strong _ _ _ _ _ c.requires.1 l.i c.loop-i-test.true _ c.is_strong.ensures) ∙ c.if-is_strong.false)),
     )
 
 pub shape_of-sets : goal.shape_of-sets

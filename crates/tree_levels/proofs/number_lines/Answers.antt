@@ -18,7 +18,8 @@ loop-m-preserved c =
       o.auto.smallest ∙ l.invariant.2,
       o.auto.unions ∙ l.invariant.3,
       o.auto.out ∙ l.invariant.4,
-      numbers_more a.before a.from _ l.m _ _ a.smallest.now a.unions.now a.out.now a.n l.smallest l.unions l.out _ _ _ l.invariant.0 refl refl refl l.invariant.5 o.ensures,
+      numbers_more a.before a.from _ l.m _ _ a.smallest.now a.unions.now a.out.now a.n l.smallest l.unions l.out _ _ _ l.invariant.0
+          refl refl refl l.invariant.5 o.ensures,
     )
 
 pub shape_of-smallest : goal.shape_of-smallest

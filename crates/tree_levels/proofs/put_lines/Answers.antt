@@ -25,10 +25,13 @@ loop-i-preserved c =
       omega arith,
       elim c.if-starts.branch [
         | then-starts w ↦
-            filled_yes a.weight a.entries.now a.smallest.now a.unions.now a.before a.used a.out.now a.n l.i l.m l.out l.invariant.1 _ _ _ _ _ _ (t ∙ w.if-starts.true) (omega arith)
-            w.at.ensures w.at-then-starts.ensures w.joins_at-joins.ensures (held w.at.result w.at.type_inv) w.put_line.ensures w.put_line.auto.out w.m-is w.out-is
+            filled_yes a.weight a.entries.now a.smallest.now a.unions.now a.before a.used a.out.now a.n l.i l.m l.out l.invariant.1 _ _ _ _ _ _
+                (t ∙ w.if-starts.true) (omega arith)
+                w.at.ensures w.at-then-starts.ensures w.joins_at-joins.ensures (held w.at.result w.at.type_inv) w.put_line.ensures w.put_line.auto.out
+                w.m-is w.out-is
         | else-starts w ↦
-            filled_no a.weight a.entries.now a.smallest.now a.unions.now a.before a.used a.out.now a.n l.i l.m l.out l.invariant.1 _ _ (t ∙ w.if-starts.false) w.m-is w.out-is
+            filled_no a.weight a.entries.now a.smallest.now a.unions.now a.before a.used a.out.now a.n l.i l.m l.out l.invariant.1 _ _
+                (t ∙ w.if-starts.false) w.m-is w.out-is
       ],
     )
 
@@ -39,4 +42,8 @@ pub returns : goal.returns
 returns c =
     let l = c.loop-i in
     let a = c.args in
-    let e : l.i ≡ a.used = omega arith in record { value = l.invariant.1.count ∙ ap (λ (j : ℕ). a.n + length (start_slots a.entries.now a.unions.now a.before j)) e; filled_to = subst (λ (j : ℕ). FilledTo a.weight a.entries.now a.smallest.now a.unions.now a.before a.used a.out.now a.n j l.out) e l.invariant.1.bytes }
+    let e : l.i ≡ a.used = omega arith in
+    record {
+      value = l.invariant.1.count ∙ ap (λ (j : ℕ). a.n + length (start_slots a.entries.now a.unions.now a.before j)) e;
+      filled_to = subst (λ (j : ℕ). FilledTo a.weight a.entries.now a.smallest.now a.unions.now a.before a.used a.out.now a.n j l.out) e l.invariant.1.bytes;
+    }

@@ -41,7 +41,8 @@ pub overflow_add-n : goal.overflow_add-n
 overflow_add-n c =
     let l = c.loop-j in
     let e = c.level_end-to.ensures in
-    omega (arith, l.invariant.1, c.count_level-n.ensures.value.1, c.take_links-next.ensures.rows_after.1, room_within c.take_links-next.new.entries, e.0, e.1, c.requires.1, passes_few _ _ _ c.requires.0 c.requires.2)
+    omega (arith, l.invariant.1, c.count_level-n.ensures.value.1, c.take_links-next.ensures.rows_after.1, room_within c.take_links-next.new.entries,
+        e.0, e.1, c.requires.1, passes_few _ _ _ c.requires.0 c.requires.2)
 
 pub loop-j-smaller : goal.loop-j-smaller
 loop-j-smaller c = let e = c.level_end-to.ensures in omega (arith, e.0, e.1)
@@ -61,7 +62,9 @@ loop-j-preserved c =
       t.auto.entries ∙ l.invariant.5,
       t.auto.smallest ∙ l.invariant.6,
       n.auto.unions ∙ t.auto.unions ∙ l.invariant.7,
-      counting_step _ _ _ l.j _ _ (next_level a.sheet.now a.k _ c.requires.0 c.requires.2 l.j _ (omega (arith, e.0, e.1, c.requires.1)) e.2) l.rows _ l.n l.invariant.8 (tables _ _ _ _ t.result) _ _ _ t.ensures.result_after t.ensures.rows_after.0 (ap (λ (x : ℕ). l.n + x) n.ensures.value.0) n.ensures.unions_after,
+      counting_step _ _ _ l.j _ _ (next_level a.sheet.now a.k _ c.requires.0 c.requires.2 l.j _ (omega (arith, e.0, e.1, c.requires.1)) e.2) l.rows _ l.n
+          l.invariant.8 (tables _ _ _ _ t.result) _ _ _ t.ensures.result_after t.ensures.rows_after.0 (ap (λ (x : ℕ). l.n + x) n.ensures.value.0)
+          n.ensures.unions_after,
     )
 
 pub shape_of-sets : goal.shape_of-sets

@@ -70,7 +70,9 @@ loop-from-preserved c =
       w.auto.smallest ∙ t.auto.smallest ∙ l.invariant.5,
       w.auto.unions ∙ t.auto.unions ∙ l.invariant.6,
       w.auto.out ∙ l.invariant.7,
-      writing_step _ _ _ l.from _ _ (next_level a.sheet.now a.k _ c.requires.0 c.requires.2 l.from _ (omega (arith, e.0, e.1, c.requires.1)) e.2) a.out.now (writing_room a.sheet.now a.k _ c.requires.0 c.requires.2 a.out.now c.requires.3) s l.rows _ l.n l.out l.invariant.8 (tables _ _ _ _ t.result) _ _ _ _ _ _ t.ensures.result_after t.ensures.rows_after.0 (ap (λ (x : Link). x.weight) c.link-l.ensures.0) w.ensures.value w.ensures.writes_level,
+      writing_step _ _ _ l.from _ _ (next_level a.sheet.now a.k _ c.requires.0 c.requires.2 l.from _ (omega (arith, e.0, e.1, c.requires.1)) e.2) a.out.now
+          (writing_room a.sheet.now a.k _ c.requires.0 c.requires.2 a.out.now c.requires.3) s l.rows _ l.n l.out l.invariant.8 (tables _ _ _ _ t.result) _ _
+          _ _ _ _ t.ensures.result_after t.ensures.rows_after.0 (ap (λ (x : Link). x.weight) c.link-l.ensures.0) w.ensures.value w.ensures.writes_level,
     )
 
 pub shape_of-sets : goal.shape_of-sets
@@ -92,4 +94,5 @@ pub returns : goal.returns
 returns c =
     let a = c.args in
     let l = c.loop-from in
-    writing_last a.sheet.now a.k _ c.requires.0 c.requires.2 a.out.now c.requires.3 l.from l.rows _ l.n l.out (omega (arith, c.loop-from-test.false, c.requires.1)) l.invariant.8
+    writing_last a.sheet.now a.k _ c.requires.0 c.requires.2 a.out.now c.requires.3 l.from l.rows _ l.n l.out
+        (omega (arith, c.loop-from-test.false, c.requires.1)) l.invariant.8
