@@ -54,4 +54,7 @@ returns c =
     let l = c.loop-next in
     let w = c.requires.0 in
     let e : l.next ≡ a.n = omega (arith, c.loop-next-test.false, l.invariant.0) in
-    record { result_after = tables_end a.journal.now a.n w a.p a.k l.rows _ l.next e ∙ l.invariant.3; rows_after = (rows_end a.journal.now a.n w a.p l.rows l.next e ∙ l.invariant.2, l.invariant.1) }
+    record {
+      result_after = tables_end a.journal.now a.n w a.p a.k l.rows _ l.next e ∙ l.invariant.3;
+      rows_after = (rows_end a.journal.now a.n w a.p l.rows l.next e ∙ l.invariant.2, l.invariant.1);
+    }

@@ -21,4 +21,10 @@ pub returns : goal.returns
 returns c =
     let t = sym c.good_entry.ensures ∙ c.if-not-good_entry.false in
     let d = c.take_link in
-    record { result_after = one_tables _ _ _ _ _ t _ _ c.low_of-low.ensures c.high_of-high.ensures _ d.ensures.result_after; rows_after = (one_rows _ _ c.args.k _ (tables [] [] [] [] 0) t _ _ c.low_of-low.ensures c.high_of-high.ensures _ d.ensures.rows_after.0, d.ensures.rows_after.1) }
+    record {
+      result_after = one_tables _ _ _ _ _ t _ _ c.low_of-low.ensures c.high_of-high.ensures _ d.ensures.result_after;
+      rows_after = (
+        one_rows _ _ c.args.k _ (tables [] [] [] [] 0) t _ _ c.low_of-low.ensures c.high_of-high.ensures _ d.ensures.rows_after.0,
+        d.ensures.rows_after.1,
+      );
+    }

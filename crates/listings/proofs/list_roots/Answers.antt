@@ -25,4 +25,5 @@ returns c =
     let a = c.args in
     let C = listed a.entries.now a.smallest.now a.unions.now a.used in
     let n = c.roots-n.ensures ∙ sym (listed_length a.entries.now a.smallest.now a.unions.now a.used) in
-    writes_all _ _ _ a.out.now _ _ (room_passed C _ _ (length a.out.now) n c.community_length-size.ensures c.if-out-size.false) (ap counts n) c.put_roots.ensures
+    writes_all _ _ _ a.out.now _ _ (room_passed C _ _ (length a.out.now) n c.community_length-size.ensures c.if-out-size.false) (ap counts n)
+    c.put_roots.ensures

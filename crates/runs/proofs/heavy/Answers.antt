@@ -15,13 +15,19 @@ link-l-requires c = omega (arith, c.loop-j-test.true, c.requires.1)
 
 pub returns-then-l-t : goal.returns-then-l-t
 returns-then-l-t c =
-    let w = ap (λ (l : Link). l.weight) c.link-l.ensures.0 in
-    (weighs_less _ _ _ (sheet_given _) _ (sheet_legal _ c.requires.0) _ c.loop-j.j (omega (arith, c.loop-j-test.true, c.requires.1)) c.loop-j.invariant.1 (omega (arith, w, c.if-l-t.true)), omega arith)
+    let w = ap (λ (l : Link). l.weight) c.link-l.ensures.0 in (
+      weighs_less _ _ _ (sheet_given _) _ (sheet_legal _ c.requires.0) _ c.loop-j.j (omega (arith, c.loop-j-test.true, c.requires.1))
+          c.loop-j.invariant.1 (omega (arith, w, c.if-l-t.true)),
+      omega arith,
+    )
 
 pub loop-j-preserved : goal.loop-j-preserved
 loop-j-preserved c =
-    let w = ap (λ (l : Link). l.weight) c.link-l.ensures.0 in
-    (omega arith, weighs_more _ _ _ (sheet_given c.args.sheet.now) _ c.loop-j.j (omega (arith, c.loop-j-test.true, c.requires.1)) c.loop-j.invariant.1 (omega (arith, w, c.if-l-t.false)))
+    let w = ap (λ (l : Link). l.weight) c.link-l.ensures.0 in (
+      omega arith,
+      weighs_more _ _ _ (sheet_given c.args.sheet.now) _ c.loop-j.j (omega (arith, c.loop-j-test.true, c.requires.1))
+          c.loop-j.invariant.1 (omega (arith, w, c.if-l-t.false)),
+    )
 
 pub returns : goal.returns
 returns c = (weighs_all _ _ _ (sheet_given _) _ (sheet_legal _ c.requires.0) _ c.loop-j.j (omega (arith, c.requires.1)) c.loop-j.invariant.1, omega arith)

@@ -8,7 +8,8 @@ use Rattle.runs.proofs.rows_of.Given as goal
 
 abbrev pub invariant-loop-j : goal.invariant-loop-j
 invariant-loop-j l =
-    (l.j ≤ l.n) × (rows_with l.rows (drop l.j (take l.n (links_of l.sheet))) ≡ rows_with no_rows (take l.n (links_of l.sheet))) × (length l.rows ≡ length no_rows)
+    (l.j ≤ l.n) × (rows_with l.rows (drop l.j (take l.n (links_of l.sheet))) ≡ rows_with no_rows (take l.n (links_of l.sheet)))
+    × (length l.rows ≡ length no_rows)
 
 abbrev pub decreases-loop-j : goal.decreases-loop-j
 decreases-loop-j l = l.n - l.j

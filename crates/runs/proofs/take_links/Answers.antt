@@ -26,7 +26,8 @@ loop-j-preserved c =
       omega (arith, c.loop-j-test.true),
       t.ensures.rows_after.1,
       rows_next _ _ _ (sheet_given a.sheet.now) a.to c.requires.2 l.rows _ l.j _ c.loop-j-test.true e t.ensures.rows_after.0 ∙ l.invariant.2,
-      tables_next _ _ _ (sheet_given a.sheet.now) a.to c.requires.2 a.k l.rows _ _ _ l.j _ c.loop-j-test.true e t.ensures.rows_after.0 t.ensures.result_after ∙ l.invariant.3,
+      tables_next _ _ _ (sheet_given a.sheet.now) a.to c.requires.2 a.k l.rows _ _ _ l.j _ c.loop-j-test.true e t.ensures.rows_after.0
+          t.ensures.result_after ∙ l.invariant.3,
       t.auto.rows ∙ l.invariant.4,
       t.auto.sets ∙ l.invariant.5,
       t.auto.entries ∙ l.invariant.6,
@@ -54,4 +55,7 @@ returns c =
     let a = c.args in
     let l = c.loop-j in
     let e : l.j ≡ a.to = omega (arith, c.loop-j-test.false, l.invariant.0) in
-    record { result_after = tables_end _ _ _ (sheet_given a.sheet.now) a.to c.requires.2 a.k l.rows _ l.j e ∙ l.invariant.3; rows_after = (rows_end _ _ _ (sheet_given a.sheet.now) a.to c.requires.2 l.rows l.j e ∙ l.invariant.2, l.invariant.1) }
+    record {
+      result_after = tables_end _ _ _ (sheet_given a.sheet.now) a.to c.requires.2 a.k l.rows _ l.j e ∙ l.invariant.3;
+      rows_after = (rows_end _ _ _ (sheet_given a.sheet.now) a.to c.requires.2 l.rows l.j e ∙ l.invariant.2, l.invariant.1);
+    }

@@ -18,7 +18,11 @@ pub rows_of-rows-requires : goal.rows_of-rows-requires
 rows_of-rows-requires c = let z = sym c.back_number-n.ensures ∙ c.if-n-ne0.false in back_within _ _ _ z _ c.one_less-links.ensures
 
 pub refill-used-requires : goal.refill-used-requires
-refill-used-requires c = let z = sym c.back_number-n.ensures ∙ c.if-n-ne0.false in (back_within _ _ _ z _ c.one_less-links.ensures, back_wide _ _ _ z, back_two _ _ _ z)
+refill-used-requires c =
+    let z = sym c.back_number-n.ensures ∙ c.if-n-ne0.false in
+    (back_within _ _ _ z _ c.one_less-links.ensures, back_wide _ _ _ z, back_two _ _ _ z)
 
 pub returns : goal.returns
-returns c = back_meets _ _ _ (sym c.back_number-n.ensures ∙ c.if-n-ne0.false) _ _ _ _ _ _ c.one_less-links.ensures c.rows_of-rows.ensures c.refill-used.ensures c.last_weight-last.ensures c.put.ensures refl refl
+returns c =
+    back_meets _ _ _ (sym c.back_number-n.ensures ∙ c.if-n-ne0.false) _ _ _ _ _ _ c.one_less-links.ensures c.rows_of-rows.ensures
+    c.refill-used.ensures c.last_weight-last.ensures c.put.ensures refl refl

@@ -10,7 +10,11 @@ pub returns-then-not-good_count : goal.returns-then-not-good_count
 returns-then-not-good_count c = bad_count _ _ (sym c.good_k.ensures ∙ c.if-not-good_k.false) (sym c.good_count.ensures ∙ c.if-not-good_count.true)
 
 pub returns-then-room-state : goal.returns-then-room-state
-returns-then-room-state c = bad_used _ _ (sym c.good_k.ensures ∙ c.if-not-good_k.false) (sym c.good_count.ensures ∙ c.if-not-good_count.false) (omega (arith, c.room.ensures, c.if-room-state.true))
+returns-then-room-state c =
+    bad_used _ _ (sym c.good_k.ensures ∙ c.if-not-good_k.false) (sym c.good_count.ensures ∙ c.if-not-good_count.false)
+    (omega (arith, c.room.ensures, c.if-room-state.true))
 
 pub returns : goal.returns
-returns c = good_used _ _ (sym c.good_k.ensures ∙ c.if-not-good_k.false) (sym c.good_count.ensures ∙ c.if-not-good_count.false) _ (omega (arith, c.room.ensures, c.if-room-state.false)) c.steady.ensures
+returns c =
+    good_used _ _ (sym c.good_k.ensures ∙ c.if-not-good_k.false) (sym c.good_count.ensures ∙ c.if-not-good_count.false) _
+    (omega (arith, c.room.ensures, c.if-room-state.false)) c.steady.ensures

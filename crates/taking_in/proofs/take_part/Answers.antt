@@ -3,6 +3,7 @@ use Rattle.taking_in.proofs.take_part.Goals as goal
 
 pub returns : goal.returns
 returns c =
-    let t = c in
-    let f = t in
-    record { result_after = took_part_lem _ _ _ _ _ _ _ f.without-s.ensures f.find-i.ensures t.take_slot.ensures.result_after; upper_bound = t.take_slot.ensures.upper_bound }
+    record {
+      result_after = took_part_lem _ _ _ _ _ _ _ c.without-s.ensures c.find-i.ensures c.take_slot.ensures.result_after;
+      upper_bound = c.take_slot.ensures.upper_bound;
+    }

@@ -11,7 +11,8 @@ use Rattle.taking_in.proofs.take_parts.Given as goal
 abbrev pub invariant-loop-q : goal.invariant-loop-q
 invariant-loop-q l =
     (num l.rest < 2 ^ width) × (l.n ≤ room l.entries)
-    × (length l.sets ≡ length l.initial.sets) × (length l.entries ≡ length l.initial.entries) × (length l.smallest ≡ length l.initial.smallest) × (length l.unions ≡ length l.initial.unions)
+    × (length l.sets ≡ length l.initial.sets) × (length l.entries ≡ length l.initial.entries) × (length l.smallest ≡ length l.initial.smallest)
+    × (length l.unions ≡ length l.initial.unions)
     × (took_parts l.first (num l.q) (members width (num l.initial.rest)) (tables l.initial.sets l.initial.entries l.initial.smallest l.initial.unions l.used)
     ≡ took_parts l.first (num l.q) (members width (num l.rest)) (tables l.sets l.entries l.smallest l.unions l.n))
 

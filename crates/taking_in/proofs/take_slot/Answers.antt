@@ -14,7 +14,10 @@ placed_fits T U s Q e h = subst (λ (X : Tables). X.used ≤ room X.entries) (sy
 
 pub returns-then-n-first : goal.returns-then-n-first
 returns-then-n-first c =
-    let p = c.place-n.ensures in record { result_after = slot_idle _ _ _ _ p (inl c.if-n-first.true); upper_bound = placed_fits _ _ _ _ p c.requires.0 }
+    let p = c.place-n.ensures in record {
+      result_after = slot_idle _ _ _ _ p (inl c.if-n-first.true);
+      upper_bound = placed_fits _ _ _ _ p c.requires.0;
+    }
 
 pub returns-then-n-i : goal.returns-then-n-i
 returns-then-n-i c =

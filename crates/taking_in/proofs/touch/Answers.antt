@@ -5,11 +5,9 @@ use Rattle.taking_in.proofs.touch.Goals as goal
 
 pub returns-then-first-used : goal.returns-then-first-used
 returns-then-first-used c =
-    let p = c in
-    let r = p in
     λ s.
-    touch_is _ _ _ _ _ _ _ _ r.if-first-used.true r.root-r.ensures.0
-    p.at.ensures p.lesser-m.ensures p.put.ensures
+    touch_is _ _ _ _ _ _ _ _ c.if-first-used.true c.root-r.ensures.0
+    c.at.ensures c.lesser-m.ensures c.put.ensures
     c.at-then-first-used.ensures c.union-u.ensures c.put-then-first-used.ensures
 
 pub returns-else-first-used : goal.returns-else-first-used
