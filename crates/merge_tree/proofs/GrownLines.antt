@@ -37,7 +37,7 @@ module _ (s : List ℕ) (k : ℕ) (T : Tables) (old : List ℕ) (r : Answer) (U 
   -- a line's union holds the union of its class at its start
   pub told_holds : (j : ℕ) (d : Line) → j < n
       → sub (union_at k (family (links_of s) (parts s) k (get_or (tree_of s k) j d).weight) (get_or (tree_of s k) j d).small)
-          (get_or (tree_of s k) j d).whole ≡ true
+      (get_or (tree_of s k) j d).whole ≡ true
   unfolding tree_of
   told_holds j d l = whole_holds (links_of s) (parts s) k lawful j d (omega (arith, l, told_lines.1))
 

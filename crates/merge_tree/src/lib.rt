@@ -19,7 +19,8 @@ pub fn lines(
     unions: &mut [u64],
     out: &mut [u8],
 ) -> Answer
-    ensures { TreeMeets sheet.now k (lent sets.old entries.old smallest.old unions.old) out.old result (lent sets.new entries.new smallest.new unions.new) out.new }
+    ensures { TreeMeets sheet.now k (lent sets.old entries.old smallest.old unions.old) out.old result
+        (lent sets.new entries.new smallest.new unions.new) out.new }
 {
     match runs::admit(sheet, k, sets, entries, smallest, unions) {
         Checked::Faulty(n, a) => Answer::Refused(n, a),

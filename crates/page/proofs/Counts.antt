@@ -76,9 +76,11 @@ module _ (b : List ℕ) (n : ℕ) where
   Counted rows j = (j ≤ n) × (rows + rows_from b j (n - j) ≡ rows_from b 0 n) × (rows ≤ width * j)
 
   pub counted_start : Counted 0 0
-  counted_start =
-      (omega arith, (let z : rows_from b 0 (n - 0) ≡ rows_from b 0 n = ap (rows_from b 0) (let y : n - 0 ≡ n = omega arith in y) in omega (arith, z)),
-          omega arith)
+  counted_start = (
+    omega arith,
+    (let z : rows_from b 0 (n - 0) ≡ rows_from b 0 n = ap (rows_from b 0) (let y : n - 0 ≡ n = omega arith in y) in omega (arith, z)),
+    omega arith,
+  )
 
   pub counted_more : (rows r c j : ℕ) → Counted rows j → j < n → c ≡ size (line_union b j) → r ≡ rows_for c → r ≤ width → Counted (rows + r) (j + 1)
   counted_more rows r c j I h e f l =

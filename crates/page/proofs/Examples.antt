@@ -42,7 +42,7 @@ cell_for b = b ∷ blanks 9
 pub three_lines : page_rows eight (tree_bytes (line_of 30 0 ∷ line_of 12 255 ∷ line_of 7 130 ∷ []))
     ≡ (blanks 5 ++ (49 ∷ []) ++ blanks 4 ++ (51 ∷ 48 ∷ []) ++ blanks 60 ++ (10 ∷ []))
     ∷ (blanks 5 ++ (50 ∷ []) ++ blanks 4 ++ (49 ∷ 50 ∷ []) ++ cell_for 65 ++ cell_for 66 ++ cell_for 67 ++ cell_for 68 ++ cell_for 69 ++ cell_for 70
-        ++ (10 ∷ []))
+    ++ (10 ∷ []))
     ∷ (blanks 12 ++ cell_for 71 ++ cell_for 72 ++ blanks 40 ++ (10 ∷ []))
     ∷ (blanks 5 ++ (51 ∷ []) ++ blanks 5 ++ (55 ∷ []) ++ cell_for 66 ++ cell_for 72 ++ blanks 40 ++ (10 ∷ []))
     ∷ []

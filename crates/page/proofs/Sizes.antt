@@ -95,7 +95,7 @@ line_put s n w k Q out one two e o f g =
     let first : out ≡ blanks 12 ++ cells s 6 Q ++ (10 ∷ []) ++ rest = o ∙ ap (λ (j : ℕ). flatten (blank_rows s j Q)) e in
     let number : one ≡ six_columns n = f ∙ ap (λ (x : List ℕ). sets (take 6 (drop 0 x)) 0 (six_columns n)) first in
     let mid : replaced out 0 6 one ≡ six_columns n ++ (blanks 6 ++ (cells s 6 Q ++ (10 ∷ []) ++ rest)) =
-        ap₂ (λ (x y : List ℕ). replaced x 0 6 y) first number in
+    ap₂ (λ (x y : List ℕ). replaced x 0 6 y) first number in
     let weight : two ≡ six_columns w = g ∙ ap (λ (x : List ℕ). sets (take 6 (drop 6 x)) 0 (six_columns w)) mid in
     ap₂ (λ (x y : List ℕ). replaced x 6 12 y) mid weight
 

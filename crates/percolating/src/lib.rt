@@ -59,7 +59,8 @@ fn take_fitting(
     sure: bool,
 ) -> usize
     requires { used ≤ room entries.old + 1 }
-    ensures result_after { tables sets.new entries.new smallest.new unions.new result ≡ took_fitting sure (tables sets.old entries.old smallest.old unions.old used) (num q) }
+    ensures result_after { tables sets.new entries.new smallest.new unions.new result
+        ≡ took_fitting sure (tables sets.old entries.old smallest.old unions.old used) (num q) }
     ensures upper_bound { result ≤ room entries.new + 1 }
 {
     let room = slots::room(entries);
@@ -97,7 +98,9 @@ pub fn percolate(
     unions: &mut [u64],
 ) -> usize
     requires { (n ≤ length products.now) × Scores weights.now cliques.now n products.now }
-    ensures { tables sets.new entries.new smallest.new unions.new result ≡ took_each sure (tables sets.old entries.old smallest.old unions.old 0) (keep (strong_by measure weights.now) (map (row cliques.now) (below n))) }
+    ensures { tables sets.new entries.new smallest.new unions.new result
+        ≡ took_each sure (tables sets.old entries.old smallest.old unions.old 0)
+        (keep (strong_by measure weights.now) (map (row cliques.now) (below n))) }
 {
     let mut used = 0;
     let mut i = 0;

@@ -27,7 +27,8 @@ fn run(
     unions: &mut [u64],
     out: &mut [u8],
 ) -> Answer
-    requires { (check_strength sheet.now k measure (level_all (clique_list cliques.old products.old) (lent sets.old entries.old smallest.old unions.old)) ≡ accepted) × (p ≡ parts sheet.now) × (m ≡ links sheet.now) }
+    requires { (check_strength sheet.now k measure (level_all (clique_list cliques.old products.old) (lent sets.old entries.old smallest.old unions.old))
+        ≡ accepted) × (p ≡ parts sheet.now) × (m ≡ links sheet.now) }
     ensures { StrengthRuns sheet.now k measure (length products.old) (length entries.old) out.old result out.new }
 {
     let rows = runs::rows_of(sheet, m);
@@ -59,7 +60,8 @@ pub fn listing(
     unions: &mut [u64],
     out: &mut [u8],
 ) -> Answer
-    ensures { StrengthMeets sheet.now k measure (clique_list cliques.old products.old) (lent sets.old entries.old smallest.old unions.old) out.old result (clique_list cliques.new products.new) (lent sets.new entries.new smallest.new unions.new) out.new }
+    ensures { StrengthMeets sheet.now k measure (clique_list cliques.old products.old) (lent sets.old entries.old smallest.old unions.old)
+        out.old result (clique_list cliques.new products.new) (lent sets.new entries.new smallest.new unions.new) out.new }
 {
     let ok = strong_checks::level(cliques, products, sets, entries, smallest, unions);
     match strong_checks::admit(sheet, k, measure, ok) {

@@ -30,7 +30,7 @@ module _ (w : ℕ) (es ms us : List ℕ) (n : ℕ) where
   unfolding start_lines
   starts_length i =
       insert_all_length by_line [] (map (line_at w ms us n) (start_slots es us n i))
-          ∙ (let e = length-map (start_slots es us n i) (line_at w ms us n) in omega arith)
+      ∙ (let e = length-map (start_slots es us n i) (line_at w ms us n) in omega arith)
 
   pub starts_none : start_lines w es ms us n 0 ≡ []
   unfolding start_lines
@@ -93,7 +93,7 @@ module _ (w : ℕ) (es ms us : List ℕ) (n used : ℕ) (old : List ℕ) (a : �
       bytes = λ X rest p l q.
           h ∙ f.bytes X rest p l q
           ∙ ap₂ (λ (Z : List Line) (j : ℕ). tree_bytes X ++ tree_bytes Z ++ drop (j * line_length) rest) (sym (starts_no w es ms us n i e))
-              (sym (tally_no es us n i e));
+          (sym (tally_no es us n i e));
       fits = λ z p. f.fits z (subst (λ (Z : List Line). z ∈ Z) (starts_no w es ms us n i e) p);
       long = ap length h ∙ f.long;
     }
@@ -138,4 +138,4 @@ module _ (w : ℕ) (es ms us : List ℕ) (n used : ℕ) (old : List ℕ) (a : �
             ∙ ap₂ (λ (Z : List Line) (t : List ℕ). tree_bytes X ++ tree_bytes Z ++ t) (sym more)
             (drop-drop line_length (c * line_length) rest
             ∙ ap (λ (x : ℕ). drop x rest)
-                (let z : c * line_length + line_length ≡ length (start_slots es us n (i + 1)) * line_length = omega (arith, tally_yes es us n i e) in z))
+            (let z : c * line_length + line_length ≡ length (start_slots es us n (i + 1)) * line_length = omega (arith, tally_yes es us n i e) in z))

@@ -6,7 +6,21 @@ ghost use Rattle.std.specs.Prelude.{◌≡◌, cond, ◌&&◌, suc, ◌+◌, ◌
 ghost use Rattle.sets.specs.Value.{store, number_at};
 ghost use Rattle.slots.specs.Tables.{root_of};
 ghost use Rattle.tree_lines.specs.LineModel.{changed, Redirects};
-ghost use Rattle.tree_levels.specs.LevelModel.{absorbed, more_joins, join_counts, joins_at, starts_at, start_slots, wiped, WentTo, GrewTo, FilledTo, NumbersOne, NumbersTo, WritesLevel};
+ghost use Rattle.tree_levels.specs.LevelModel.{
+  absorbed,
+  more_joins,
+  join_counts,
+  joins_at,
+  starts_at,
+  start_slots,
+  wiped,
+  WentTo,
+  GrewTo,
+  FilledTo,
+  NumbersOne,
+  NumbersTo,
+  WritesLevel,
+};
 
 // Whether slot i ended a class at the end of the level before and ends none now.
 fn absorbed(entries: &[u32], unions: &[u64], i: usize) -> bool
@@ -264,7 +278,8 @@ pub fn write_level(
 ) -> usize
     requires { n + used < 2 ^ 64 }
     ensures value { result ≡ n + length (start_slots entries.now (join_counts entries.now unions.old before) before used) }
-    ensures writes_level { WritesLevel before used weight n entries.now smallest.old (join_counts entries.now unions.old before) out.old smallest.new unions.new out.new }
+    ensures writes_level { WritesLevel before used weight n entries.now smallest.old (join_counts entries.now unions.old before)
+        out.old smallest.new unions.new out.new }
 {
     count_joins(entries, unions, before);
     let m = put_lines(entries, smallest, unions, before, used, weight, out, n);

@@ -24,8 +24,14 @@ head_of w j i = bytes 2 w ++ bytes 4 j ++ bytes 4 i
 
 pub head_length_lem : (w j i : ℕ) → length (head_of w j i) ≡ 10
 head_length_lem w j i =
-    omega (arith, length-append (bytes 2 w ++ bytes 4 j) (bytes 4 i), length-append (bytes 2 w) (bytes 4 j), bytes_length 2 w, bytes_length 4 j,
-        bytes_length 4 i)
+    omega (
+      arith,
+      length-append (bytes 2 w ++ bytes 4 j) (bytes 4 i),
+      length-append (bytes 2 w) (bytes 4 j),
+      bytes_length 2 w,
+      bytes_length 4 j,
+      bytes_length 4 i,
+    )
 
 pub line_bytes_lem : (x : Line) → length (line_bytes x) ≡ line_length
 line_bytes_lem x =
@@ -78,9 +84,9 @@ pub fields_written : (o0 o1 o2 o3 o4 o5 : List ℕ) (k i1 i2 i3 i4 w j i s u : �
 fields_written o0 o1 o2 o3 o4 o5 k i1 i2 i3 i4 w j i s u e1 e2 e3 e4 w1 w2 w3 w4 w5 fits =
     let n2 : length (bytes 2 w ++ bytes 4 j) ≡ 6 = omega (arith, length-append (bytes 2 w) (bytes 4 j), bytes_length 2 w, bytes_length 4 j) in
     let n4 : length (head_of w j i ++ set_bytes s) ≡ 10 + set_length =
-        omega (arith, length-append (head_of w j i) (set_bytes s), head_length_lem w j i, set_length_lem s) in
+    omega (arith, length-append (head_of w j i) (set_bytes s), head_length_lem w j i, set_length_lem s) in
     let c1 = writes_both o0 o1 o2 (bytes 2 w) (bytes 4 j) k i1 (omega (arith, bytes_length 2 w)) (writes_sets o0 o1 (bytes 2 w) k k refl w1)
-        (writes_sets o1 o2 (bytes 4 j) i1 i1 refl w2) in
+    (writes_sets o1 o2 (bytes 4 j) i1 i1 refl w2) in
     let c2 = writes_both o0 o2 o3 (bytes 2 w ++ bytes 4 j) (bytes 4 i) k i2 (omega (arith, n2)) c1 (writes_sets o2 o3 (bytes 4 i) i2 i2 refl w3) in
     let c3 = writes_both o0 o3 o4 (head_of w j i) (set_bytes s) k i3 (omega (arith, head_length_lem w j i)) c2 (writes_set o3 o4 i3 i3 s refl w4) in
     let c4 = writes_both o0 o4 o5 (head_of w j i ++ set_bytes s) (set_bytes u) k i4 (omega (arith, n4)) c3 (writes_set o4 o5 i4 i4 u refl w5) in

@@ -175,13 +175,13 @@ counting_step L p k i j w v R T c h U R' us' c' eu er ec es =
         (join_counts (with_links L k i j R T).entries (with_links L k i j R T).unions T.used)
     ends =
         counts_ends T (with_links L k i j R T) (level_turned L p k i j w v R T h.classes h.starts h.passed) h.passed.grown.matches.number h.classes
-            h.passed.grown.matches.classes
+        h.passed.grown.matches.classes
         (level_bounded L p k i j w v R T h.classes h.starts h.passed)
 
     after : c' ≡ c + starts_in T.used (with_links L k i j R T)
         → Counting L p k j (rows_with R (drop i (take j L)))
-            (emptied (with_links L k i j R T) (with_links L k i j R T).smallest
-            (join_counts (with_links L k i j R T).entries (with_links L k i j R T).unions T.used)) c'
+        (emptied (with_links L k i j R T) (with_links L k i j R T).smallest
+        (join_counts (with_links L k i j R T).entries (with_links L k i j R T).unions T.used)) c'
     after e = record {
       classes = rooted_now w (length h.starts) (with_links L k i j R T) h.classes;
       starts = starts_now w (with_links L k i j R T) h.classes h.starts;

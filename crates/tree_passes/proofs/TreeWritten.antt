@@ -177,11 +177,12 @@ module _ (L : List Link) (p k i j w : ℕ) (v : NextLevel L p k i j w) (old : Li
     left_over =
         drop-drop (length X * line_length) (length S * line_length) old
         ∙ ap (λ (x : ℕ). drop x old)
-            (let z : length S * line_length + length X * line_length ≡ length (S ++ X) * line_length = omega (arith, ap (λ (y : ℕ). y * line_length) total) in z)
+        (let z : length S * line_length + length X * line_length ≡ length (S ++ X) * line_length =
+        omega (arith, ap (λ (y : ℕ). y * line_length) total) in z)
 
     written : (n' : ℕ) → n' ≡ n + starts_in T.used U
         → Writing L p k j (rows_with R (drop i (take j L))) (emptied U (level_numbers T.used w U A S).smallest (level_numbers T.used w U A S).unions) old n'
-            next
+        next
     unfolding rooted_now
     written n' e = record {
       classes = rooted_now w (length S) U A;
@@ -202,7 +203,7 @@ module _ (L : List Link) (p k i j w : ℕ) (v : NextLevel L p k i j w) (old : Li
     written_next n' e =
         subst⁻¹ (λ (x : List ℕ). Writing L p k j (rows_with R (drop i (take j L))) (tables U.sets U.entries x us U.used) old n' next) small_is
         (subst⁻¹ (λ (x : List ℕ). Writing L p k j (rows_with R (drop i (take j L)))
-            (tables U.sets U.entries (level_numbers T.used w U A S).smallest x U.used) old n' next) union_is
+        (tables U.sets U.entries (level_numbers T.used w U A S).smallest x U.used) old n' next) union_is
         (written n' e))
 
 -- with the tables and rows as the code has them

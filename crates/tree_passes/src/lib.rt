@@ -29,7 +29,8 @@ pub fn count_tree(
     smallest: &mut [u64],
     unions: &mut [u64],
 ) -> usize
-    requires { (check_call sheet.now k (lent sets.old entries.old smallest.old unions.old) ≡ accepted) × (m ≡ links sheet.now) × (slots (parts sheet.now) k (cliques (links_of sheet.now) (parts sheet.now) k) ≤ room entries.old) }
+    requires { (check_call sheet.now k (lent sets.old entries.old smallest.old unions.old) ≡ accepted) × (m ≡ links sheet.now)
+        × (slots (parts sheet.now) k (cliques (links_of sheet.now) (parts sheet.now) k) ≤ room entries.old) }
     ensures { result ≡ length (tree (links_of sheet.now) (parts sheet.now) k) }
 {
     runs::clear(sets, entries, smallest, unions);
@@ -60,7 +61,9 @@ pub fn write_tree(
     unions: &mut [u64],
     out: &mut [u8],
 )
-    requires { (check_call sheet.now k (lent sets.old entries.old smallest.old unions.old) ≡ accepted) × (m ≡ links sheet.now) × (slots (parts sheet.now) k (cliques (links_of sheet.now) (parts sheet.now) k) ≤ room entries.old) × (length (tree_bytes (tree (links_of sheet.now) (parts sheet.now) k)) ≤ length out.old) }
+    requires { (check_call sheet.now k (lent sets.old entries.old smallest.old unions.old) ≡ accepted) × (m ≡ links sheet.now)
+        × (slots (parts sheet.now) k (cliques (links_of sheet.now) (parts sheet.now) k) ≤ room entries.old)
+        × (length (tree_bytes (tree (links_of sheet.now) (parts sheet.now) k)) ≤ length out.old) }
     ensures { out.new ≡ written accepted (tree_bytes (tree (links_of sheet.now) (parts sheet.now) k)) out.old }
 {
     runs::clear(sets, entries, smallest, unions);

@@ -27,7 +27,7 @@ unfolding Distinct
 slots_distinct f own l d =
     map_distinct (λ (b : Begun). b.slot) (insert_all by_begun [] (map f l))
     (insert_all_distinct by_begun [] (map f l) tt (map_distinct f l d (λ i j a b e. sym (own i) ∙ ap (λ (b : Begun). b.slot) e ∙ own j))
-        (λ z i j. Memᴰ.not-nil j)) one
+    (λ z i j. Memᴰ.not-nil j)) one
   where
     of : (b : Begun) → b ∈ insert_all by_begun [] (map f l) → f b.slot ≡ b
     of b m = let q = Memᴰ.of_map f l (insert_all_from by_begun (map f l) m) in ap f (sym (ap (λ (b : Begun). b.slot) q.2) ∙ own q.0) ∙ q.2
@@ -48,7 +48,7 @@ module _ (w : ℕ) (U : Tables) (A : List Rooted) where
   -- slot j of theirs
   pub begun_slot : (j : ℕ) → j < length (slots_in (begun_lines w U A))
       → (get_or (slots_in (begun_lines w U A)) j 0 < U.used)
-          × (root_of U.entries (get_or (slots_in (begun_lines w U A)) j 0) ≡ get_or (slots_in (begun_lines w U A)) j 0)
+      × (root_of U.entries (get_or (slots_in (begun_lines w U A)) j 0) ≡ get_or (slots_in (begun_lines w U A)) j 0)
       × (starts_line U.entries A (get_or (slots_in (begun_lines w U A)) j 0) ≡ true)
   unfolding begun_at
   begun_slot j l =

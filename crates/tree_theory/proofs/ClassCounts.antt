@@ -26,7 +26,8 @@ use Rattle.listings.specs.Model.{root_slots}
 use Rattle.listings.proofs.Listed.{roots_of, roots_at, roots_distinct}
 use Rattle.tree_theory.specs.Model.{Rooted, rooted, ending_at, starts_line}
 use Rattle.tree_levels.specs.LevelModel.{absorbed, more_joins, join_counts, joins_at, starts_at, start_slots}
-use Rattle.tree_levels.proofs.LevelSteps.{absorbed_end, absorbed_other, swept_yes, swept_no, swept_none, joins_first, joins_more, joins_full, joins_new, joins_old, starts_new, starts_old}
+use Rattle.tree_levels.proofs.LevelSteps.{absorbed_end, absorbed_other, swept_yes, swept_no, swept_none, joins_first, joins_more, joins_full}
+use Rattle.tree_levels.proofs.LevelSteps.{joins_new, joins_old, starts_new, starts_old}
 use Rattle.tree_theory.proofs.UnionsKept.{Bounded}
 use Rattle.tree_theory.proofs.SweptRows.{swept_length, swept_rows, swept_bounded, swept_other}
 
@@ -124,12 +125,12 @@ module _ (es us : List ℕ) where
           let q : root_of es i ≡ r = eqb-true (root_of es i) r s in
           let c = tally i r in
           let v : more_joins (number_at J (suc r)) ≡ joins_of_lem (suc c) = ap more_joins
-              (number_is J (suc r) (joins_of_lem c) ih (few c (omega (arith, tally_le i r)))) ∙ joins_suc c (omega (arith, tally_le i r)) in
+          (number_is J (suc r) (joins_of_lem c) ih (few c (omega (arith, tally_le i r)))) ∙ joins_suc c (omega (arith, tally_le i r)) in
           let more : tally (suc i) r ≡ suc c =
           ap length (keep_below_yes P i (and_intro (absorbed es us i) (eqb (root_of es i) r) t s)) ∙ length-append (keep P (below i)) (i ∷ [])
-              ∙ (let z : c + 1 ≡ suc c = omega arith in z) in
+          ∙ (let z : c + 1 ≡ suc c = omega arith in z) in
           let small : more_joins (number_at J (suc r)) < 2 ^ width = subst⁻¹ (λ (x : ℕ). x < 2 ^ width) v
-              (small_fits (suc (suc c)) (omega (arith, tally_le i r))) in
+          (small_fits (suc (suc c)) (omega (arith, tally_le i r))) in
           ap (λ (x : List ℕ). row x (suc r)) (swept_yes (absorbed es) (λ j. suc (root_of es j)) more_joins us i (counts_absorbed i ∙ t))
           ∙ ap (λ (x : ℕ). row (store J (suc x) (more_joins (number_at J (suc x)))) (suc r)) q
           ∙ row_store J (suc r) (more_joins (number_at J (suc r))) (omega (arith, counts_rows i)) small

@@ -77,7 +77,7 @@ module _ (w : ℕ) (U : Tables) (A : List Rooted) (S : List Start) where
         let X2 = map (λ (c : Begun). c.start) (drop (suc j) B) in
         let cut : S ++ X ≡ (S ++ X1) ++ (b.start ∷ X2) =
         ap (λ (C : List Begun). S ++ map (λ (c : Begun). c.start) C) (split_at B j d lb)
-            ∙ ap (λ (Y : List Start). S ++ Y) (map_append (λ (c : Begun). c.start) (take j B) (b ∷ drop (suc j) B))
+        ∙ ap (λ (Y : List Start). S ++ Y) (map_append (λ (c : Begun). c.start) (take j B) (b ∷ drop (suc j) B))
         ∙ sym (append_assoc S X1 (b.start ∷ X2)) in
         let i = joined_by_lem j d lb x m e in
         let free = (grown_joins L p k U (rooted_now w (length S) U A) (S ++ X) W g (S ++ X1) X2 b.start cut x.number i).2 in

@@ -177,7 +177,7 @@ module _ (L : List Link) (p k w : ℕ) (T U : Tables) (h : Turned T U) (number :
       let own : root_of es q ≡ q = root_twice es i in
       let one = member_length (keep (λ j. absorbed es us j && eqb (root_of es j) q) (below T.used))
       (keep_at (λ j. absorbed es us j && eqb (root_of es j) q) (below T.used) (below_at i T.used l)
-          (and_intro (absorbed es us i) (eqb q q) t (eq-eqb q q refl))) in
+      (and_intro (absorbed es us i) (eqb q q) t (eq-eqb q q refl))) in
       let e = ending_old T U h number A classes q b own in
       ap not (ne_eqb (length (ending_at es A q)) 1 (λ z. omega (arith, z, e, one)))
 
@@ -234,7 +234,7 @@ module _ (L : List Link) (p k w : ℕ) (T U : Tables) (h : Turned T U) (number :
     number2 : number_at ms2 (suc i) ≡ number i
     number2 =
         number_is ms2 (suc i) (number i) (number_kept i l end0 (λ e. omega (arith, e, absorbed_lower es us2 i t)))
-            (omega (arith, (numbers_in i l end0).1, many))
+        (omega (arith, (numbers_in i l end0).1, many))
 
     went_in : number_at ms2 (suc i) ≤ n
     went_in = omega (arith, number2, (numbers_in i l end0).1)
@@ -359,13 +359,13 @@ module _ (L : List Link) (p k w : ℕ) (T U : Tables) (h : Turned T U) (number :
           let j = place_of r l e t in
           ap (λ (x : ℕ). row ms2 (suc x)) (sym j.2) ∙ given.smallest j.0 j.1
           ∙ sym (ap (λ (x : Bool). cond x (line_number r n B) (only_number (ending_at es A r))) t ∙ ap (λ (x : ℕ). line_number x n B) (sym j.2)
-              ∙ begun_number w U A n j.0 j.1)
+          ∙ begun_number w U A n j.0 j.1)
       go (inr t) =
           given.others (suc r) (λ j a z. never (starts_line es A r)
-              (subst⁻¹ (λ (x : ℕ). starts_line es A x ≡ true) (let y : r ≡ get_or sl j 0 = omega (arith, z) in y) (at_slot j a).2) t)
+          (subst⁻¹ (λ (x : ℕ). starts_line es A x ≡ true) (let y : r ≡ get_or sl j 0 = omega (arith, z) in y) (at_slot j a).2) t)
           ∙ still_there r going.0 going.1
           ∙ sym (ap (λ (x : Bool). cond x (line_number r n B) (only_number (ending_at es A r))) t
-              ∙ only_one (ending_at es A r) (rooted r (number r)) (ends_here going.0 going.1) (one_only r t))
+          ∙ only_one (ending_at es A r) (rooted r (number r)) (ends_here going.0 going.1) (one_only r t))
         where
           one_only : (r : ℕ) → starts_line es A r ≡ false → length (ending_at es A r) ≡ 1
           one_only = only_ending es A

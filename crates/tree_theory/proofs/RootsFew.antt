@@ -357,7 +357,7 @@ module _ (L : List Link) (p k : ℕ) where
   fresh (w ∷ W) u P n r at y m t s a i z h j =
       go (Memᴰ.append_cases (level_at_lem L p k w P n).starts (rw (starts_next L p k w W P n) at m))
       (λ x. fresh W w (level_at_lem L p k w P n).branches (n + length (level_at_lem L p k w P n).starts) r.1 (level_at w P n) y x t s a i z
-          (family_mono L p k u w le a h) j)
+      (family_mono L p k u w le a h) j)
     where
       le : w ≤ u
       le = omega (arith, ltb-true w u (r.0 w (Memᴰ.head refl)))
@@ -374,7 +374,7 @@ module _ (L : List Link) (p k : ℕ) where
   level_slots w P n =
       spread_distinct slots_at by_class (leaves X)
       (keep_rising by_class leaf X (starts_rising L p k w P n (classes_at L p k w) (communities_rising k (family L p k w)))) (λ x m. subs_distinct p x.small)
-          apart
+      apart
     where
       X : List Start
       X = (level_at_lem L p k w P n).starts

@@ -44,7 +44,7 @@ module _ (w : ℕ) (T : Tables) (A : List Rooted) where
   unfolding begun_lines
   begun_of b m =
       let q = Memᴰ.of_map start_at (keep (starts_line T.entries A) (roots_in T))
-          (insert_all_from by_begun (map start_at (keep (starts_line T.entries A) (roots_in T))) m) in
+      (insert_all_from by_begun (map start_at (keep (starts_line T.entries A) (roots_in T))) m) in
       let h = keep_of (starts_line T.entries A) (roots_in T) q.1 in
       (q.0, h.0, h.1, q.2)
 
@@ -52,7 +52,7 @@ module _ (w : ℕ) (T : Tables) (A : List Rooted) where
   unfolding begun_lines
   begun_at_lem r m t =
       insert_all_at by_begun [] (map start_at (keep (starts_line T.entries A) (roots_in T)))
-          (inr (Memᴰ.map start_at (keep_at (starts_line T.entries A) (roots_in T) m t)))
+      (inr (Memᴰ.map start_at (keep_at (starts_line T.entries A) (roots_in T) m t)))
 
   -- what a line joins are numbers of A
   pub joins_from : (b : Begun) → b ∈ begun_lines w T A → (i : ℕ) → i ∈ b.start.joins → (x : Rooted) × x ∈ A × (x.number ≡ i)

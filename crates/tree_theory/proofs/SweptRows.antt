@@ -41,11 +41,11 @@ module _ (test : List ℕ → ℕ → Bool) (place new : ℕ → ℕ) (us : List
   swept_bounded fits n b =
       swept_keeps Bounded n b
       (λ i l t r. subst⁻¹ Bounded (swept_yes test place new us i t)
-          (bounded_store (S i) (place i) (new (number_at (S i) (place i))) r (small_fits _ (fits _ (number_lt (S i) (place i))))))
+      (bounded_store (S i) (place i) (new (number_at (S i) (place i))) r (small_fits _ (fits _ (number_lt (S i) (place i))))))
 
   -- a row that no slot writes
   pub swept_other : (n x : ℕ) → ((i : ℕ) → i < n → test (swept test place new us i) i ≡ true → x ≡ place i → ⊥) → row (swept test place new us n) x ≡ row us x
   swept_other n x apart =
       swept_keeps (λ xs. row xs x ≡ row us x) n refl
       (λ i l t e. ap (λ (xs : List ℕ). row xs x) (swept_yes test place new us i t)
-          ∙ row_other (S i) (place i) x (new (number_at (S i) (place i))) (apart i l t) ∙ e)
+      ∙ row_other (S i) (place i) x (new (number_at (S i) (place i))) (apart i l t) ∙ e)

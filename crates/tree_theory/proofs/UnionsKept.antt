@@ -163,7 +163,7 @@ grows_links p k L (l ∷ M) R T wide two ok n =
     let N = new_cliques R k l.low l.high in
     let U = took_all T N in
     let sized : Family p k N = new_sets p L R (legal_front p L (l ∷ M) ok) wide n l k two (check_new p L l 0 (legal_init p L l 0 (legal_with p L M l ok)).1)
-        e.0 e.1 in
+    e.0 e.1 in
     grows_both T U (took_links k R T (l ∷ M)) (grows_all T N (λ Q m. set_fits p Q wide (sized Q m).1))
     (grows_links p k (L ++ (l ∷ [])) M (marked R l.low l.high) U wide two (legal_past p L M l ok) (near_one p L M l ok R wide n))
 

@@ -41,8 +41,8 @@ returns-then-out-size c =
     let t = c.count_tree-n in
     let k = t.auto in
     call_ran _ _ _ _ _ a.out.now _ _ _ e _ _ g _ _ _
-        (grow_full a.sheet.now a.k a.out.now _ _ t.ensures c.line_length-size.ensures _ f _ c.if-out-size.true refl) c.clear-then-out-size.ensures k.sets
-        k.entries k.smallest k.unions
+    (grow_full a.sheet.now a.k a.out.now _ _ t.ensures c.line_length-size.ensures _ f _ c.if-out-size.true refl) c.clear-then-out-size.ensures k.sets
+    k.entries k.smallest k.unions
 
 pub write_tree-requires : goal.write_tree-requires
 unfolding tree_of
@@ -74,5 +74,5 @@ returns-else-out-size c =
     let k = t.auto in
     let l = w.auto in
     call_ran _ _ _ _ _ a.out.now _ _ _ e _ _ g _ _ _
-        (grow_whole a.sheet.now a.k a.out.now _ _ t.ensures c.line_length-size.ensures _ f _ c.if-out-size.false refl _ w.ensures) c.clear-in-Fine.ensures
-        (l.sets ∙ k.sets) (l.entries ∙ k.entries) (l.smallest ∙ k.smallest) (l.unions ∙ k.unions)
+    (grow_whole a.sheet.now a.k a.out.now _ _ t.ensures c.line_length-size.ensures _ f _ c.if-out-size.false refl _ w.ensures) c.clear-in-Fine.ensures
+    (l.sets ∙ k.sets) (l.entries ∙ k.entries) (l.smallest ∙ k.smallest) (l.unions ∙ k.unions)

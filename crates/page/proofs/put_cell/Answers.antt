@@ -24,5 +24,5 @@ pub returns : goal.returns
 returns c =
     let e = cell_filled c.args.sheet.now _ c.lowest-q.result _ c.name_at-a.result c.requires.0 (sym c.is_empty.ensures ∙ c.if-is_empty.false) c.lowest-q.ensures
     c.blank.new.out c.copy_from_slice.new.self c.name_at-a.ensures.0 (c.blank.ensures ∙ ap blanks c.requires.1) c.copy_from_slice.ensures.after
-        c.without.ensures in
+    c.without.ensures in
     record { out_after = e.0; leaves = e.1 }

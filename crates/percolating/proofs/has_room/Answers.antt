@@ -33,9 +33,11 @@ loop-q-smaller c = peel_less _ _ _ (sym c.is_empty.ensures ∙ c.loop-q-test.tru
 pub loop-q-preserved : goal.loop-q-preserved
 loop-q-preserved c =
     let l = c.loop-q in
-    let next = peeled_next _ _ (sym c.is_empty.ensures ∙ c.loop-q-test.true) c.lowest-part.ensures l.invariant.0 _ c.without-rest-else-i-used.ensures in
-    (held c.without-rest-else-i-used.result c.without-rest-else-i-used.type_inv, l.invariant.1
-        ∙ room_less _ _ _ _ _ _ _ next _ _ c.without-s.ensures c.find-i.ensures c.if-i-used.false c.if-left-eq0.false _ refl)
+    let next = peeled_next _ _ (sym c.is_empty.ensures ∙ c.loop-q-test.true) c.lowest-part.ensures l.invariant.0 _ c.without-rest-else-i-used.ensures in (
+      held c.without-rest-else-i-used.result c.without-rest-else-i-used.type_inv,
+      l.invariant.1
+          ∙ room_less _ _ _ _ _ _ _ next _ _ c.without-s.ensures c.find-i.ensures c.if-i-used.false c.if-left-eq0.false _ refl,
+    )
 
 pub returns : goal.returns
 returns c = room_end _ _ _ _ _ (peeled_none _ (sym c.is_empty.ensures ∙ c.loop-q-test.false)) ∙ sym c.loop-q.invariant.1

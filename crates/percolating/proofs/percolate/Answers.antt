@@ -25,8 +25,8 @@ loop-i-preserved-then-is_strong c =
       k.unions ∙ l.invariant.5,
       l.invariant.6
           ∙ strong_yes _ _ _ _ l.i _ c.loop-i-test.true refl _ _ _
-              (sym (told_strong _ _ _ _ _ c.requires.1 l.i c.loop-i-test.true _ c.is_strong.ensures) ∙ c.if-is_strong.true) _ c.at-q.ensures
-              c.take_fitting-used.ensures.result_after,
+          (sym (told_strong _ _ _ _ _ c.requires.1 l.i c.loop-i-test.true _ c.is_strong.ensures) ∙ c.if-is_strong.true) _ c.at-q.ensures
+          c.take_fitting-used.ensures.result_after,
     )
 
 pub loop-i-preserved : goal.loop-i-preserved

@@ -36,7 +36,7 @@ pub returns : goal.returns
 returns c =
     let l = c.loop-rest in
     let z = sym c.is_empty.ensures ∙ c.loop-rest-test.false in
-    let narrow = first_narrow _ _ (λ i. (c.shared_slice_known-1.given i).fits) in
+    let narrow = first_narrow _ _ (λ i. (c.type_inv.weights i).fits) in
     record {
       product_value = sym (pairs_done times_of _ _ _ z) ∙ l.invariant.1 ∙ from_one _ narrow;
       weakest_value = sym (pairs_done min _ _ _ z) ∙ l.invariant.2 ∙ weakest_left _;

@@ -12,4 +12,4 @@ pub returns-in-Fine : goal.returns-in-Fine
 returns-in-Fine c =
     let k = c.run-answer.auto in
     strength_ran _ _ _ _ _ c.args.out.now _ _ _ c.level-ok.ensures c.admit.ensures _ _ c.in-Fine.is _ _ _ _ _ c.run-answer.ensures c.clear_list.ensures
-        k.cliques k.products c.clear.ensures k.sets k.entries k.smallest k.unions
+    k.cliques k.products c.clear.ensures k.sets k.entries k.smallest k.unions

@@ -40,4 +40,4 @@ returns c =
     let q = c.requires in
     let a = c.args in
     list_strong _ _ _ _ q.0 _ _ q.1 q.2 _ c.rows_of-rows.ensures _ _ _ _ c.store_cliques-n.ensures c.if-room-n.false
-        (omega (arith, level_rows _ _ (strength_level _ _ _ _ q.0))) _ c.fill.ensures a.entries.now a.out.now _ _ _ c.is_sure-sure.ensures c.list.ensures
+    (omega (arith, level_rows _ _ (strength_level _ _ _ _ q.0))) _ c.fill.ensures a.entries.now a.out.now _ _ _ c.is_sure-sure.ensures c.list.ensures

@@ -19,7 +19,7 @@ loop-i-preserved c =
       elim c.if-absorbed.branch [
         | then-absorbed w ↦
             swept_more _ _ _ a.unions.now l.i l.unions _ l.invariant.2 (t ∙ w.if-absorbed.true) _ _ (ap suc w.root.ensures.0)
-                refl (w.unions-is ∙ w.count_join.ensures)
+            refl (w.unions-is ∙ w.count_join.ensures)
         | else-absorbed w ↦ swept_kept _ _ _ a.unions.now l.i l.unions _ l.invariant.2 (t ∙ w.if-absorbed.false) w.unions-is
       ],
     )

@@ -16,8 +16,12 @@ loop-i-preserved c =
     let a = c.args in
     let t = sym c.starts.ensures in
     elim c.if-starts.branch [
-      | then-starts w ↦ (omega arith, omega arith, w.n-is ∙ ap (λ (j : ℕ). j + 1) l.invariant.2
-          ∙ sym (tally_yes a.entries.now a.unions.now a.before l.i (t ∙ w.if-starts.true)))
+      | then-starts w ↦ (
+        omega arith,
+        omega arith,
+        w.n-is ∙ ap (λ (j : ℕ). j + 1) l.invariant.2
+            ∙ sym (tally_yes a.entries.now a.unions.now a.before l.i (t ∙ w.if-starts.true)),
+      )
       | else-starts w ↦ (omega arith, omega arith, w.n-is ∙ l.invariant.2 ∙ sym (tally_no a.entries.now a.unions.now a.before l.i (t ∙ w.if-starts.false)))
     ]
 

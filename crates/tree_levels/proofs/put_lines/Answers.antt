@@ -26,12 +26,12 @@ loop-i-preserved c =
       elim c.if-starts.branch [
         | then-starts w ↦
             filled_yes a.weight a.entries.now a.smallest.now a.unions.now a.before a.used a.out.now a.n l.i l.m l.out l.invariant.1 _ _ _ _ _ _
-                (t ∙ w.if-starts.true) (omega arith)
-                w.at.ensures w.at-then-starts.ensures w.joins_at-joins.ensures (held w.at.result w.at.type_inv) w.put_line.ensures w.put_line.auto.out
-                w.m-is w.out-is
+            (t ∙ w.if-starts.true) (omega arith)
+            w.at.ensures w.at-then-starts.ensures w.joins_at-joins.ensures (held w.at.result w.at.type_inv) w.put_line.ensures w.put_line.auto.out
+            w.m-is w.out-is
         | else-starts w ↦
             filled_no a.weight a.entries.now a.smallest.now a.unions.now a.before a.used a.out.now a.n l.i l.m l.out l.invariant.1 _ _
-                (t ∙ w.if-starts.false) w.m-is w.out-is
+            (t ∙ w.if-starts.false) w.m-is w.out-is
       ],
     )
 

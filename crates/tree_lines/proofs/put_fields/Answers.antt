@@ -8,7 +8,7 @@ pub returns : goal.returns
 returns c =
     let a = c.args in
     fields_written a.out.now _ _ _ _ _ a.start _ _ _ _ a.weight a.joins a.into (num a.small) (num a.whole)
-        refl refl refl (ap (λ (n : ℕ). a.start + n) c.whole_place.ensures)
+    refl refl refl (ap (λ (n : ℕ). a.start + n) c.whole_place.ensures)
     c.put_two.ensures
     c.put_four.ensures
     c.put_four-2.ensures

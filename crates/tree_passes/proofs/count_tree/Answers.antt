@@ -41,8 +41,17 @@ pub overflow_add-n : goal.overflow_add-n
 overflow_add-n c =
     let l = c.loop-j in
     let e = c.level_end-to.ensures in
-    omega (arith, l.invariant.1, c.count_level-n.ensures.value.1, c.take_links-next.ensures.rows_after.1, room_within c.take_links-next.new.entries,
-        e.0, e.1, c.requires.1, passes_few _ _ _ c.requires.0 c.requires.2)
+    omega (
+      arith,
+      l.invariant.1,
+      c.count_level-n.ensures.value.1,
+      c.take_links-next.ensures.rows_after.1,
+      room_within c.take_links-next.new.entries,
+      e.0,
+      e.1,
+      c.requires.1,
+      passes_few _ _ _ c.requires.0 c.requires.2,
+    )
 
 pub loop-j-smaller : goal.loop-j-smaller
 loop-j-smaller c = let e = c.level_end-to.ensures in omega (arith, e.0, e.1)

@@ -13,7 +13,7 @@ abbrev pub invariant-loop-j : goal.invariant-loop-j
 invariant-loop-j l =
     (l.j ≤ l.m) × (l.n ≤ l.j * most_slots) × (l.used ≤ room l.entries) × (length l.rows ≡ length no_rows)
     × (length l.sets ≡ length l.initial.sets) × (length l.entries ≡ length l.initial.entries) × (length l.smallest ≡ length l.initial.smallest)
-        × (length l.unions ≡ length l.initial.unions)
+    × (length l.unions ≡ length l.initial.unions)
     × Counting (links_of l.sheet) (parts l.sheet) l.k l.j l.rows (tables l.sets l.entries l.smallest l.unions l.used) l.n
 
 abbrev pub decreases-loop-j : goal.decreases-loop-j

@@ -95,4 +95,4 @@ returns c =
     let a = c.args in
     let l = c.loop-from in
     writing_last a.sheet.now a.k _ c.requires.0 c.requires.2 a.out.now c.requires.3 l.from l.rows _ l.n l.out
-        (omega (arith, c.loop-from-test.false, c.requires.1)) l.invariant.8
+    (omega (arith, c.loop-from-test.false, c.requires.1)) l.invariant.8

@@ -12,7 +12,7 @@ abbrev pub invariant-loop-from : goal.invariant-loop-from
 invariant-loop-from l =
     (l.from ≤ l.m) × (l.used ≤ room l.entries) × (length l.rows ≡ length no_rows)
     × (length l.sets ≡ length l.initial.sets) × (length l.entries ≡ length l.initial.entries) × (length l.smallest ≡ length l.initial.smallest)
-        × (length l.unions ≡ length l.initial.unions) × (length l.out ≡ length l.initial.out)
+    × (length l.unions ≡ length l.initial.unions) × (length l.out ≡ length l.initial.out)
     × Writing (links_of l.sheet) (parts l.sheet) l.k l.from l.rows (tables l.sets l.entries l.smallest l.unions l.used) l.initial.out l.n l.out
 
 abbrev pub decreases-loop-from : goal.decreases-loop-from

@@ -16,9 +16,11 @@ put-requires c =
 
 pub loop-j-preserved : goal.loop-j-preserved
 loop-j-preserved c =
-    let l = c.loop-j in
-    (omega (arith, l.invariant.0), from_next c.args.sheet.now c.requires.0 _ l.j _ _ _ (omega arith) (omega (arith, l.invariant.0, c.requires.1))
-        c.link-l.ensures.0 l.invariant.1 c.put.ensures)
+    let l = c.loop-j in (
+      omega (arith, l.invariant.0),
+      from_next c.args.sheet.now c.requires.0 _ l.j _ _ _ (omega arith) (omega (arith, l.invariant.0, c.requires.1))
+          c.link-l.ensures.0 l.invariant.1 c.put.ensures,
+    )
 
 pub shape_of-weights : goal.shape_of-weights
 shape_of-weights c = c.loop-j.invariant.1.places ∙ sym c.requires.2.places
