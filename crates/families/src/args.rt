@@ -1,5 +1,5 @@
 // What the arguments ask for. Arguments that ask for nothing are told on standard error with the usage.
-use crate::typed::{Number, decimal};
+use crate::numeral::{Number, decimal};
 use crate::usage::wrong;
 use check::same;
 use console::arg_count;

@@ -9,9 +9,9 @@ mod full_sheet;
 mod limits;
 mod means;
 mod meet;
+mod numeral;
 mod pack;
 mod paper;
-mod typed;
 mod usage;
 
 use args::Order;

@@ -1,5 +1,5 @@
 use native.Mathlib.Omega.{arith}
-use Rattle.families.proofs.typed.decimal.Goals as goal
+use Rattle.families.proofs.numeral.decimal.Goals as goal
 
 pub loop-i-init : goal.loop-i-init
 loop-i-init c = (omega arith, omega arith)
