@@ -1,8 +1,8 @@
 -- The product formula: C(n, r + 1) is C(n, r) times n - r, divided by r + 1, and the division is exact. Assumes nothing.
-use mathlib.Core.Path.{◌≡◌, refl, sym, ap, ap₂, ◌∙◌}
+use mathlib.Core.Path.{◌≡◌, sym, ap, ◌∙◌}
 use mathlib.Core.Logic.{◌⊎◌, inl, inr}
 use Prim.Native.Nat.{ℕ, zero, suc, ◌+◌, ◌-◌, ◌*◌, ◌/◌, ◌%◌, ◌^◌, ◌≤◌, ◌<◌}
-use native.Mathlib.Nat.{mul_comm, mul-add, mul-one, suc-mul, mul-zero, zero-mul, mul-mod_left, div-eq_of_eq-mul_left, mul-le-mul, pow-zero, pow-suc, pow-le-pow_left, pow-le-pow_right, eq_of_mul-eq-mul_left, le-mul_of_pos_right}
+use native.Mathlib.Nat.{mul_comm, mul-add, suc-mul, mul-zero, zero-mul, mul-mod_left, div-eq_of_eq-mul_left, mul-le-mul, pow-zero, pow-suc, pow-le-pow_left, pow-le-pow_right, eq_of_mul-eq-mul_left, le-mul_of_pos_right}
 use native.Mathlib.Omega.{arith}
 use native.Mathlib.Numerals.{add-one}
 use Rattle.sets.proofs.Tests.{lt_or_le}

@@ -1,13 +1,9 @@
-use borrow.Author.Rules.{rules}
 use mathlib.Core.Path.{refl, ◌∙◌}
 use native.Mathlib.Omega.{arith}
 use Prim.Native.Nat.{◌+◌, ◌*◌, ◌-◌}
 use Rattle.part_names.proofs.Form.{eight_inside, names_same}
 use Rattle.dump.specs.Dump.{dump_name_at, dump_name}
 use Rattle.dump.proofs.names.Goals as goal
-
-pub test-requires : goal.test-requires
-test-requires c = (search rules, omega arith, omega arith, omega arith)
 
 pub returns : goal.returns
 returns c =

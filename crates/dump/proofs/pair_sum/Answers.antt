@@ -8,11 +8,6 @@ use Rattle.dump.proofs.pair_sum.Goals as goal
 pub loop-i-init : goal.loop-i-init
 loop-i-init c = (omega arith, omega arith, sym (added_none pairs_in (row_of c.args.d.now)))
 
-pub overflow_add-pairs : goal.overflow_add-pairs
-overflow_add-pairs c =
-    let l = c.loop-i in
-    record { fits = omega (arith, l.invariant.0, l.invariant.1, c.row_count-n.ensures.1, c.pairs_in-pairs.ensures.1) }
-
 pub loop-i-preserved : goal.loop-i-preserved
 loop-i-preserved c =
     let l = c.loop-i in

@@ -11,14 +11,8 @@ pairs_of : (s b : ℕ) → ones s ≡ b → b * (b - 1) / 2 ≡ pairs_in s
 unfolding pairs_in
 pairs_of s b e = ap (λ (n : ℕ). n * (n - 1) / 2) (sym e ∙ size_ones s)
 
-pub overflow_cast-b : goal.overflow_cast-b
-overflow_cast-b c = record { fits = omega (arith, ones-le 64 c.args.row c.ranges.row.fits) }
-
 pub returns-then-b-eq0 : goal.returns-then-b-eq0
 returns-then-b-eq0 c = (pairs_of _ 0 c.if-b-eq0.true, omega arith)
-
-pub overflow_mul-result : goal.overflow_mul-result
-overflow_mul-result c = let h : ones c.args.row ≤ 64 = ones-le 64 c.args.row c.ranges.row.fits in let k : ones c.args.row - 1 ≤ 64 = omega arith in record { fits = omega (arith, mul-le-mul h k) }
 
 pub returns : goal.returns
 returns c =

@@ -1,7 +1,6 @@
-use mathlib.Core.Path.{◌≡◌, sym, ap, ◌∙◌}
+use mathlib.Core.Path.{sym, ap, ◌∙◌}
 use native.Mathlib.Omega.{arith}
-use Rattle.answers.specs.Verdict.{refused, in_order}
-use Rattle.dump.specs.Dump.{check_row}
+use Rattle.answers.specs.Verdict.{refused}
 use Rattle.dump.proofs.Rows.{row_test, rows_none, rows_more, rows_stop}
 use Rattle.dump.proofs.rows_within.Goals as goal
 
@@ -24,8 +23,3 @@ loop-i-preserved c =
     let l = c.loop-i in
     let t = row_test a.d.now _ l.i a.p _ _ p.0 p.1 c.upto-all.ensures (c.from_word-s.ensures ∙ c.row.ensures.0) c.subset.ensures in
     (omega arith, rows_more a.d.now l.i l.invariant.1 (sym t ∙ c.if-not-subset.false))
-
-pub returns : goal.returns
-returns c =
-    let l = c.loop-i in
-    sym (ap (in_order (check_row c.args.d.now)) (let e : c.args.n ≡ l.i = omega arith in e) ∙ l.invariant.1)

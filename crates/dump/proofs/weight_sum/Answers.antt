@@ -9,14 +9,6 @@ use Rattle.dump.proofs.weight_sum.Goals as goal
 pub loop-j-init : goal.loop-j-init
 loop-j-init c = (omega arith, omega arith, sym (added_none weight_of (link_of c.args.s.now)))
 
-pub link-weight-requires : goal.link-weight-requires
-link-weight-requires c = omega (arith, c.loop-j-test.true, c.link_count-m.ensures.0)
-
-pub overflow_add-weight : goal.overflow_add-weight
-overflow_add-weight c =
-    let l = c.loop-j in
-    record { fits = omega (arith, l.invariant.0, l.invariant.1, c.link_count-m.ensures.1, c.link-weight.ensures.1.1.1) }
-
 pub loop-j-preserved : goal.loop-j-preserved
 loop-j-preserved c =
     let l = c.loop-j in

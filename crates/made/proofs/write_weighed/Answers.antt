@@ -22,15 +22,6 @@ same_link C i l h a b =
 pub loop-i-init : goal.loop-i-init
 loop-i-init c = (turn_first (weight_at c.args.table.now) c.args.p _, omega arith, refl, refl, refl)
 
-pub slice_bounds-put_pair-end : goal.slice_bounds-put_pair-end
-slice_bounds-put_pair-end c = sym c.loop-i.invariant.2
-
-pub slice_bounds-put_pair-end-then-is_pair : goal.slice_bounds-put_pair-end-then-is_pair
-slice_bounds-put_pair-end-then-is_pair c = sym c.loop-i.invariant.3
-
-pub slice_bounds-put_pair-end-then-is_pair-2 : goal.slice_bounds-put_pair-end-then-is_pair-2
-slice_bounds-put_pair-end-then-is_pair-2 c = sym c.loop-i.invariant.4
-
 pub loop-i-preserved-then-is_pair : goal.loop-i-preserved-then-is_pair
 loop-i-preserved-then-is_pair c =
     let l = c.loop-i in

@@ -1,13 +1,6 @@
-use mathlib.Core.Path.{refl, sym, ◌∙◌, subst}
-use Prim.Native.Nat.{ℕ}
-use Rattle.row_counts.proofs.Peeling.{lowest_answer, part_below, fewer, RowLeft, row_done, rest_fits, rest_room, row_more}
+use mathlib.Core.Path.{sym, ◌∙◌}
+use Rattle.row_counts.proofs.Peeling.{lowest_answer, part_below, fewer, row_done, rest_fits, rest_room, row_more}
 use Rattle.row_counts.proofs.count_row.Goals as goal
-
-pub loop-rest-init : goal.loop-rest-init
-loop-rest-init c =
-    let a = c.args in
-    let p = c.requires in
-    subst (λ (s : ℕ). RowLeft a.counts.now a.row a.counts.now s) (sym c.from_word-rest.ensures) (record { left = refl; places = p.0; fits = c.ranges.row.fits; room = p.1 })
 
 pub count_with-requires : goal.count_with-requires
 count_with-requires c =

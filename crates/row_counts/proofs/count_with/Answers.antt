@@ -1,9 +1,6 @@
-use mathlib.Core.Path.{refl, sym, ◌∙◌}
+use mathlib.Core.Path.{sym, ◌∙◌}
 use Rattle.row_counts.proofs.Peeling.{lowest_answer, part_below, fewer, with_done, with_room, with_more}
 use Rattle.row_counts.proofs.count_with.Goals as goal
-
-pub loop-rest-init : goal.loop-rest-init
-loop-rest-init c = let p = c.requires in record { left = refl; places = p.0; fits = p.2; room = p.3 }
 
 pub raise-requires : goal.raise-requires
 raise-requires c =

@@ -1,4 +1,3 @@
-use borrow.Author.Rules.{rules}
 use mathlib.Core.Path.{◌≡◌, ap, ◌∙◌}
 use mathlib.Core.List.{List}
 use native.Mathlib.Omega.{arith}
@@ -14,9 +13,6 @@ inside : (s : List ℕ) (p a e : ℕ) → a ≡ name_at s 0 → e ≡ name_at s 
 inside s p a e first end q h =
     let at : a + 8 * q ≡ name_at s q = omega arith in
     eight_inside s a (e - a) (8 * q) (omega arith) ∙ ap (eight_at s) at
-
-pub test-requires : goal.test-requires
-test-requires c = (search rules, omega arith, c.name_at-first.ensures.1, omega arith)
 
 pub returns : goal.returns
 returns c =

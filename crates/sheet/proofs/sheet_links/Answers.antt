@@ -3,7 +3,6 @@ use native.Mathlib.Omega.{arith}
 use mathlib.Core.List.{List}
 use Prim.Native.Nat.{ℕ, ◌+◌}
 use lib.ListN.{length}
-use Rattle.sets.proofs.Tables.{length_none}
 use Rattle.answers.specs.Verdict.{refused, in_order}
 use Rattle.checks.specs.Model.{link_number}
 use Rattle.sheet.specs.Sheet.{parts, link_at, link_of, check_link_at}
@@ -13,9 +12,6 @@ use Rattle.sheet.proofs.sheet_links.Goals as goal
 
 pub loop-j-init : goal.loop-j-init
 loop-j-init c = (omega arith, subst⁻¹ (λ (R : List ℕ). Passed (link_of c.args.s.now) (link_at c.args.s.now) (parts c.args.s.now) 0 R 65535) c.no_rows-seen.ensures (passed_none _ _ _), ap length c.no_rows-seen.ensures)
-
-pub slice_bounds-link_number-end : goal.slice_bounds-link_number-end
-slice_bounds-link_number-end c = sym (c.loop-j.invariant.2 ∙ length_none)
 
 pub returns-then-number-ne0 : goal.returns-then-number-ne0
 unfolding check_link_at
@@ -28,9 +24,6 @@ returns-then-number-ne0 c =
     ap (refused n.result) c.link_at.ensures.0
     ∙ sym (passed_stop (link_of s) (link_at s) (parts s) l.j l.seen l.before (omega (arith, e, c.requires.1.1)) l.invariant.1 _ c.link-l.ensures.0 c.link-l.ensures.1.1.1 n.result
     (n.ensures ∙ ap (λ (p : ℕ). link_number p l.seen l.before (link_row c.link-l.result)) e) a.m c.loop-j-test.true c.if-number-ne0.true)
-
-pub slice_bounds-add_link-end : goal.slice_bounds-add_link-end
-slice_bounds-add_link-end c = sym (c.loop-j.invariant.2 ∙ length_none)
 
 pub loop-j-preserved : goal.loop-j-preserved
 loop-j-preserved c =

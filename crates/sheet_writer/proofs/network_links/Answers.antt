@@ -3,7 +3,6 @@ use native.Mathlib.Omega.{arith}
 use mathlib.Core.List.{List}
 use Prim.Native.Nat.{ℕ, ◌+◌, ◌≤◌}
 use lib.ListN.{length}
-use Rattle.sets.proofs.Tables.{length_none}
 use Rattle.answers.specs.Verdict.{in_order}
 use Rattle.sets.specs.Value.{width}
 use Rattle.percolation.specs.Links.{link}
@@ -18,21 +17,6 @@ loop-j-init c =
     let n = network a.names.now a.lower.now a.higher.now a.weights.now in
     (omega arith, subst⁻¹ (λ (R : List ℕ). Passed (link_in n) (λ i. 0) (parts_of n) 0 R 65535) c.no_rows-seen.ensures (passed_none _ _ _), ap length c.no_rows-seen.ensures)
 
-pub offset_bounds-higher-j : goal.offset_bounds-higher-j
-offset_bounds-higher-j c = omega (arith, c.requires.1.0)
-
-pub bounds-higher-j : goal.bounds-higher-j
-bounds-higher-j c = omega (arith, c.requires.1.0)
-
-pub offset_bounds-weights-j : goal.offset_bounds-weights-j
-offset_bounds-weights-j c = omega (arith, c.requires.1.1)
-
-pub bounds-weights-j : goal.bounds-weights-j
-bounds-weights-j c = omega (arith, c.requires.1.1)
-
-pub slice_bounds-link_number-end : goal.slice_bounds-link_number-end
-slice_bounds-link_number-end c = sym (c.loop-j.invariant.2 ∙ length_none)
-
 pub returns-then-number-ne0 : goal.returns-then-number-ne0
 unfolding link_in check_link_in
 returns-then-number-ne0 c =
@@ -45,9 +29,6 @@ returns-then-number-ne0 c =
     let small = c.wide-weight.ensures.1 in
     let fits : parts_of n ≤ width = omega (arith, c.requires.0) in
     sym (passed_stop (link_in n) (λ i. 0) (parts_of n) l.j l.seen l.before fits l.invariant.1 x same small r.result r.ensures (length a.lower.now) c.loop-j-test.true c.if-number-ne0.true)
-
-pub slice_bounds-add_link-end : goal.slice_bounds-add_link-end
-slice_bounds-add_link-end c = sym (c.loop-j.invariant.2 ∙ length_none)
 
 pub loop-j-preserved : goal.loop-j-preserved
 unfolding link_in

@@ -1,13 +1,12 @@
 use mathlib.Core.Path.{◌≡◌, refl, ap, ap₂, ◌∙◌}
 use native.Mathlib.Omega.{arith}
-use mathlib.Core.List.{[], ◌++◌}
+use mathlib.Core.List.{[]}
 use Prim.Native.Nat.{ℕ, ◌*◌}
-use lib.ListN.{length, drop}
 use lib.Seq.{sets}
 use Rattle.percolation.specs.Links.{Link, link}
 use Rattle.sheet.specs.Network.{network}
 use Rattle.sheet_writer.specs.Writing.{link_in, link_bytes}
-use Rattle.sheet_writer.proofs.Written.{links_bytes, stored_none, stored_more}
+use Rattle.sheet_writer.proofs.Written.{stored_none, stored_more}
 use Rattle.sheet_writer.proofs.put_links.Goals as goal
 
 pub loop-j-init : goal.loop-j-init
@@ -27,12 +26,3 @@ loop-j-preserved c =
       stored_more (link_in n) l.j a.out.now l.out _ (omega arith) l.invariant.2 (f.ensures ∙ ap (λ (x : Link). sets l.out (4 * l.j) (link_bytes x)) same),
       f.auto.out ∙ l.invariant.3,
     )
-
-pub shape_of-out : goal.shape_of-out
-shape_of-out c = c.loop-j.invariant.3
-
-pub returns : goal.returns
-returns c =
-    let a = c.args in
-    c.loop-j.invariant.2
-    ∙ ap (λ (k : ℕ). links_bytes (link_in (network [] a.lower.now a.higher.now a.weights.now)) k ++ drop (4 * k) a.out.now) (let e : c.loop-j.j ≡ length a.lower.now = omega arith in e)

@@ -1,6 +1,5 @@
-use mathlib.Core.Path.{◌≡◌, sym, ap, ◌∙◌}
+use mathlib.Core.Path.{sym}
 use native.Mathlib.Omega.{arith}
-use Rattle.subsets.specs.Subsets.{subset_count}
 use Rattle.subsets.proofs.Pascal.{count_empty}
 use Rattle.subsets.proofs.Formula.{product_fits, next_count}
 use Rattle.subsets.proofs.product.Goals as goal
@@ -17,10 +16,3 @@ pub loop-i-preserved : goal.loop-i-preserved
 loop-i-preserved c =
     let l = c.loop-i in
     (omega arith, next_count c.args.n l.i l.c l.invariant.1)
-
-pub returns : goal.returns
-returns c =
-    let l = c.loop-i in
-    let a = c.args in
-    let e : l.i ≡ a.r = omega arith in
-    l.invariant.1 ∙ ap (subset_count a.n) e

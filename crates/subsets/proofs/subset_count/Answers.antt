@@ -13,9 +13,6 @@ returns-then-r-gt6 c = far_parts c.args.n c.args.r c.if-r-gt6.true
 pub returns-then-n-r : goal.returns-then-n-r
 returns-then-n-r c = let a = c.args in few_parts a.n a.r (omega arith) (omega arith) c.if-n-r.true
 
-pub product-requires : goal.product-requires
-product-requires c = (omega arith, omega arith, omega arith)
-
 pub returns : goal.returns
 returns c =
     let a = c.args in

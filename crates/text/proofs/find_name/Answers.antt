@@ -1,12 +1,9 @@
 use Rattle.text.proofs.Bytes.{part_take}
 use lib.ListN.{take, drop}
 use Prim.Native.Nat.{◌*◌, ◌+◌, ◌-◌}
-use Rattle.text.proofs.Names.{looked_none, looked_here, looked_past, looked_end}
+use Rattle.text.proofs.Names.{looked_here, looked_past, looked_end}
 use native.Mathlib.Omega.{arith}
 use Rattle.text.proofs.find_name.Goals as goal
-
-pub loop-q-init : goal.loop-q-init
-loop-q-init c = (omega arith, looked_none _ _ _)
 
 pub returns-then-holds_name : goal.returns-then-holds_name
 returns-then-holds_name c = let a = c.args in

@@ -2,17 +2,11 @@ use Rattle.text.proofs.Names.{padded_length, padded_at}
 use Rattle.text.proofs.Bytes.{same_step, same_end}
 use Rattle.text.specs.Reading.{padded}
 use Rattle.sets.proofs.Tests.{and_stop, and_go}
-use borrow.Author.Tests.{lt-leb, le-leb, ne_eqb, eq-eqb}
+use borrow.Author.Tests.{le-leb, ne_eqb, eq-eqb}
 use lib.ListN.{length}
 use native.Mathlib.Omega.{arith}
 use mathlib.Core.Path.{refl, sym, ◌∙◌}
 use Rattle.text.proofs.holds_name.Goals as goal
-
-pub returns-then-slot-name : goal.returns-then-slot-name
-returns-then-slot-name c = and_stop _ _ (lt-leb _ _ c.if-slot-name.true)
-
-pub loop-i-init : goal.loop-i-init
-loop-i-init c = (omega arith, c.if-slot-name.false, refl)
 
 pub returns-then-slot-i : goal.returns-then-slot-i
 returns-then-slot-i c = let l = c.loop-i in

@@ -1,12 +1,9 @@
-use Rattle.text.proofs.PartLaws.{form_said, line_101, line_part, line_silent, line_link}
+use Rattle.text.proofs.PartLaws.{form_said, line_101, line_silent, line_link}
 use mathlib.Core.Path.{refl}
 use Rattle.text.proofs.part_line.Goals as goal
 
 pub returns-in-Neither : goal.returns-in-Neither
 returns-in-Neither c = λ N h l. line_101 N _ _ _ _ (form_said _ _ _ c.in-Neither.is c.form_of.ensures)
-
-pub returns-in-Part : goal.returns-in-Part
-returns-in-Part c = λ N h l. line_part N _ _ _ _ _ _ _ (form_said _ _ _ c.in-Part.is c.form_of.ensures) c.word.ensures.result_value (c.put_part.ensures N h l)
 
 pub returns-in-Silent : goal.returns-in-Silent
 returns-in-Silent c = λ N h l. line_silent N _ _ _ _ _ (form_said _ _ _ c.in-Silent.is c.form_of.ensures) h l refl

@@ -4,18 +4,11 @@ use Rattle.link_order.specs.Order.{link_lists}
 use lib.ListN.{length}
 use lib.Dec.{eqb}
 use native.Mathlib.Omega.{arith}
-use mathlib.Core.Path.{refl, sym, ap, ◌∙◌}
-use Rattle.sets.proofs.Tables.{length_none}
+use mathlib.Core.Path.{refl, ap, ◌∙◌}
 use Rattle.text.proofs.read_links.Goals as goal
 
 pub loop-at-init : goal.loop-at-init
 loop-at-init c = (ap length c.no_rows-seen.ensures, record { lower = refl; higher = refl; weights = refl }, λ N h l. links_none _ N _ _ c.no_rows-seen.ensures)
-
-pub slice_bounds-link_line-end-in-loop-at : goal.slice_bounds-link_line-end-in-loop-at
-slice_bounds-link_line-end-in-loop-at c = sym (c.loop-at.invariant.0 ∙ length_none)
-
-pub link_line-requires : goal.link_line-requires
-link_line-requires c = c.requires
 
 pub slice_bounds-link_line-end : goal.slice_bounds-link_line-end
 slice_bounds-link_line-end c = omega (arith, c.line_end-end.ensures, line_end_fits (eqb 10) c.args.text.now c.loop-at.at (omega arith))
@@ -25,9 +18,6 @@ returns-in-Fault c = λ N h l. let s = c.loop-at in
     let f = s.invariant.2 N h l in
     links_refused _ N _ _ _ _ (links_stop c.args.text.now N _ (link_lists s.lower s.higher s.weights) _ s.seen _ s.m s.at c.line_end-end.result c.link_line.result f s.invariant.1 c.loop-at-test.true c.line_end-end.ensures (c.link_line.ensures N f.L h l f.near f.count) _ _ c.in-Fault.is)
 
-pub overflow_add-at : goal.overflow_add-at
-overflow_add-at c = omega (arith, line_end_fits (eqb 10) c.args.text.now c.loop-at.at (omega arith))
-
 pub loop-at-preserved : goal.loop-at-preserved
 loop-at-preserved c = let s = c.loop-at in
     let k = c.link_line.auto in (
@@ -35,15 +25,6 @@ loop-at-preserved c = let s = c.loop-at in
       sizes_then _ _ _ (record { lower = k.lower; higher = k.higher; weights = k.weights }) s.invariant.1,
       λ N h l. let f = s.invariant.2 N h l in links_more c.args.text.now N _ (link_lists s.lower s.higher s.weights) _ s.seen _ s.m s.at c.line_end-end.result c.link_line.result f s.invariant.1 c.loop-at-test.true c.line_end-end.ensures (c.link_line.ensures N f.L h l f.near f.count) _ c.in-Count.is,
     )
-
-pub shape_of-lower : goal.shape_of-lower
-shape_of-lower c = c.loop-at.invariant.1.lower
-
-pub shape_of-higher : goal.shape_of-higher
-shape_of-higher c = c.loop-at.invariant.1.higher
-
-pub shape_of-weights : goal.shape_of-weights
-shape_of-weights c = c.loop-at.invariant.1.weights
 
 pub returns : goal.returns
 returns c = λ N h l. links_fine _ N _ _ _ _ _ (c.loop-at.invariant.2 N h l) c.loop-at-test.false

@@ -7,9 +7,6 @@ use Rattle.text.proofs.read_parts.Goals as goal
 pub loop-at-init : goal.loop-at-init
 loop-at-init c = parts_none c.args.text.now c.args.names.now
 
-pub part_line-requires : goal.part_line-requires
-part_line-requires c = c.loop-at.invariant.room
-
 pub slice_bounds-part_line-end : goal.slice_bounds-part_line-end
 slice_bounds-part_line-end c = omega (arith, c.line_end-end.ensures, line_end_fits (eqb 10) c.args.text.now c.loop-at.at (omega arith))
 
@@ -17,21 +14,12 @@ pub returns-in-Fault : goal.returns-in-Fault
 returns-in-Fault c = let l = c.loop-at in
     parts_refused _ _ _ _ _ (parts_stop c.args.text.now c.args.names.now l.names _ l.p l.at c.line_end-end.result c.part_line.result l.invariant c.loop-at-test.true c.line_end-end.ensures (c.part_line.ensures l.invariant.N (parts_held _ _ _ _ _ l.invariant) l.invariant.count) _ _ c.in-Fault.is)
 
-pub overflow_add-at : goal.overflow_add-at
-overflow_add-at c = omega (arith, line_end_fits (eqb 10) c.args.text.now c.loop-at.at (omega arith))
-
 pub loop-at-preserved : goal.loop-at-preserved
 loop-at-preserved c = let l = c.loop-at in
     parts_more c.args.text.now c.args.names.now l.names _ l.p l.at c.line_end-end.result c.part_line.result l.invariant c.loop-at-test.true c.line_end-end.ensures (c.part_line.ensures l.invariant.N (parts_held _ _ _ _ _ l.invariant) l.invariant.count) _ c.in-Count.is c.part_line.auto.names
 
-pub shape_of-names-then-p-eq0 : goal.shape_of-names-then-p-eq0
-shape_of-names-then-p-eq0 c = c.loop-at.invariant.size
-
 pub returns-then-p-eq0 : goal.returns-then-p-eq0
 returns-then-p-eq0 c = parts_empty _ _ _ _ _ c.loop-at.invariant c.loop-at-test.false c.if-p-eq0.true
-
-pub shape_of-names : goal.shape_of-names
-shape_of-names c = c.loop-at.invariant.size
 
 pub returns : goal.returns
 returns c = parts_fine _ _ _ _ _ c.loop-at.invariant c.loop-at-test.false c.if-p-eq0.false
