@@ -7,7 +7,7 @@ use sheet::part_count;
 // The name's bytes in its eight. A longer name is left out: the writer refuses the spaces as it does every wrong name.
 fn put_name(slot: &mut [u8], name: &[u8]) {
     if name.len() <= slot.len() {
-        slot[0..name.len()].copy_from_slice(name);
+        copying::copy(name, &mut slot[0..name.len()]);
     }
 }
 
@@ -20,7 +20,7 @@ fn write_with(name: &[u8], names: &mut [u8], sheet: &mut [u8]) -> Answer {
     if sheet.len() < at + 8 {
         return Answer::Refused(4, 0);
     }
-    names[0..at].copy_from_slice(&sheet[8..8 + at]);
+    copying::copy(&sheet[8..8 + at], &mut names[0..at]);
     put_name(&mut names[at..at + 8], name);
     let none = [0u16; 0];
     sheet_writer::write(&names[0..at + 8], &none, &none, &none, sheet)

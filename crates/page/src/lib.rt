@@ -88,7 +88,7 @@ fn put_cell(sheet: &[u8], left: Set, out: &mut [u8]) -> Set
     }
     let q = sets::lowest(left);
     let a = sheet::name_at(sheet, q);
-    out[0..8].copy_from_slice(&sheet[a..a + 8]);
+    copying::copy(&sheet[a..a + 8], &mut out[0..8]);
     sets::without(left, q)
 }
 

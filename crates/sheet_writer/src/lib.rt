@@ -122,7 +122,7 @@ fn put_sheet(names: &[u8], lower: &[u16], higher: &[u16], weights: &[u16], out: 
     put_head(out, k / 8, lower.len());
     let first = sheet::head_length();
     let at = first + k;
-    out[first..at].copy_from_slice(names);
+    copying::copy(names, &mut out[first..at]);
     put_links(lower, higher, weights, &mut out[at..]);
 }
 

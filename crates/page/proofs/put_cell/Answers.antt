@@ -14,8 +14,8 @@ name_at-a-requires c =
     let N = c.requires.0 in
     omega (arith, N.narrow, next_below c.args.sheet.now _ c.lowest-q.result N (sym c.is_empty.ensures ∙ c.if-is_empty.false) c.lowest-q.ensures)
 
-pub slice_bounds-copy_from_slice-end-2 : goal.slice_bounds-copy_from_slice-end-2
-slice_bounds-copy_from_slice-end-2 c =
+pub slice_bounds-copy-end : goal.slice_bounds-copy-end
+slice_bounds-copy-end c =
     let N = c.requires.0 in
     let below = next_below c.args.sheet.now _ c.lowest-q.result N (sym c.is_empty.ensures ∙ c.if-is_empty.false) c.lowest-q.ensures in
     omega (arith, N.long, c.name_at-a.ensures.0, below)
@@ -23,6 +23,6 @@ slice_bounds-copy_from_slice-end-2 c =
 pub returns : goal.returns
 returns c =
     let e = cell_filled c.args.sheet.now _ c.lowest-q.result _ c.name_at-a.result c.requires.0 (sym c.is_empty.ensures ∙ c.if-is_empty.false) c.lowest-q.ensures
-    c.blank.new.out c.copy_from_slice.new.self c.name_at-a.ensures.0 (c.blank.ensures ∙ ap blanks c.requires.1) c.copy_from_slice.ensures.after
+    c.blank.new.out c.copy.new.dst c.name_at-a.ensures.0 (c.blank.ensures ∙ ap blanks c.requires.1) c.copy.ensures
     c.without.ensures in
     record { out_after = e.0; leaves = e.1 }

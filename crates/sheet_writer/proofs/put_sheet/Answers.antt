@@ -20,8 +20,8 @@ returns c =
     let i = c.head_length-first.result in
     let hd = head_bytes (parts_of n) m in
     let size : length hd ≡ i = ap length (head_bytes_lem (parts_of n) m) ∙ sym c.head_length-first.ensures in
-    sheet_put a.out.now hd a.names.now (links_bytes (link_in n) m) c.put_head.new.out c.copy_from_slice.new.self c.put_links.new.out i k (4 * m)
+    sheet_put a.out.now hd a.names.now (links_bytes (link_in n) m) c.put_head.new.out c.copy.new.dst c.put_links.new.out i k (4 * m)
     size refl (links_length (link_in n) m) (omega (arith, c.requires.lower_in_bounds, c.head_length-first.ensures))
     (c.put_head.ensures ∙ sets-eq hd a.out.now 0 (omega (arith, size, c.requires.lower_in_bounds, c.head_length-first.ensures)) ∙ ap (λ (j : ℕ). hd ++ drop j a.out.now) size)
-    c.copy_from_slice.ensures.after c.put_links.ensures
+    c.copy.ensures c.put_links.ensures
     ∙ ap (λ (j : ℕ). sheet_of n ++ drop (j + k + 4 * m) a.out.now) c.head_length-first.ensures
