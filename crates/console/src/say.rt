@@ -2,7 +2,7 @@
 
 ghost use Rattle.std.specs.Prelude.{◌≤◌, length};
 
-use std::io::{Error, Write};
+use std::io::{Error, ErrorKind, Write};
 
 // The numbers that the system gives to a program's three streams.
 pub const STDIN: i32 = 0;
@@ -39,12 +39,14 @@ pub fn counted(n: usize, word: &[u8]) {
     }
 }
 
-// Writes all of t to standard output. Where that takes no more it says so, and answers false.
+// Writes all of t to standard output. Where that takes no more it says so, and answers false; of a reader that went away, as `head` does, nothing is said.
 pub fn put_out(rt: &impl Print, t: &[u8]) -> bool {
     match rt.write_all(t) {
         Ok(()) => true,
         Err(e) => {
-            fail(b"standard output", e);
+            if e.kind() != ErrorKind::BrokenPipe {
+                fail(b"standard output", e);
+            }
             false
         }
     }
