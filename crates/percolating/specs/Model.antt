@@ -10,7 +10,7 @@ use Rattle.products.specs.Model.{table_weights}
 use Rattle.slots.specs.Tables.{Tables, tables, room}
 use Rattle.slots.specs.Model.{find, took_in}
 
--- no used slot holds the sub_clique of Q without its part q
+-- no used slot holds the sub-clique of Q without its part q
 unfoldable pub lacks : List ℕ → ℕ → ℕ → ℕ → Bool
 lacks sets used Q q = leb used (find sets used (out q Q))
 

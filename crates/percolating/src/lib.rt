@@ -41,7 +41,7 @@ fn has_room(sets: &[u64], used: usize, free: usize, q: Set) -> bool
     true
 }
 
-// The same, or sure beforehand: then no sub_clique is looked for.
+// The same, or sure beforehand: then no sub-clique is looked for.
 fn may_take(sets: &[u64], used: usize, free: usize, q: Set, sure: bool) -> bool
     ensures { result ≡ sure || leb (length (lacking sets.now used (num q))) free }
 {

@@ -18,7 +18,7 @@ use Rattle.slots.specs.Model.{find, took_part, took_parts, touched, took_in}
 answer_is : (n q : ℕ) → eqb n 0 ≡ false → q ≡ cond (eqb n 0) width (lowest n) → q ≡ lowest n
 answer_is n q t e = e ∙ ap (λ (x : Bool). cond x width (lowest n)) t
 
--- the code's sub_clique without the lowest part; of the empty set that is the empty set
+-- the code's sub-clique without the lowest part; of the empty set that is the empty set
 pub peeled : (n q s : ℕ) → q ≡ cond (eqb n 0) width (lowest n) → s ≡ out q n → s ≡ out (lowest n) n
 peeled n q s e d = d ∙ go (split (eqb n 0))
   where

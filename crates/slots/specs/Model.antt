@@ -57,7 +57,7 @@ unfoldable pub joined_used : Tables → ℕ → ℕ → Tables
 unfolding joined
 joined_used T f i = elim (ltb f T.used && ltb i T.used) [ true ↦ joined T f i | false ↦ T ]
 
--- the sub_clique of Q without its part q in a slot, and that slot joined to slot f
+-- the sub-clique of Q without its part q in a slot, and that slot joined to slot f
 unfoldable pub took_part : ℕ → ℕ → ℕ → Tables → Tables
 unfolding find placed joined_used out
 took_part f Q q T = joined_used (placed T (out q Q) Q) f (find T.sets T.used (out q Q))

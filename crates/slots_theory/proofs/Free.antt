@@ -185,7 +185,7 @@ paired_free T h i l r e = omega (arith, (h i l r).1)
 
 -- U shows a clique more than T
 module _ (p k m : ℕ) (F : List ℕ) (T U : Tables) (two : 2 ≤ k) (family : Family p k (m ∷ F)) (old : Shows p k F T) (new : Shows p k (m ∷ F) U) (s : Stays T U) where
-  -- a slot more holds a sub_clique of the clique more
+  -- a slot more holds a sub-clique of the clique more
   more_part : (i : ℕ) → i < U.used → T.used ≤ i → sub (row U.sets i) m ≡ true
   more_part i l u = go (Memᴰ.cases_cons slot.member)
     where
@@ -208,7 +208,7 @@ module _ (p k m : ℕ) (F : List ℕ) (T U : Tables) (two : 2 ≤ k) (family : F
   one_class i j a b x y =
       (shows_complete p k (m ∷ F) U new).ends i j a b (record { a = m; b = m; in_a = x; in_b = y; chain = alone (Memᴰ.head refl) })
 
-  -- each sub_clique has another beside it in a slot
+  -- each sub-clique has another beside it in a slot
   beside : (i : ℕ) → i < U.used → sub (row U.sets i) m ≡ true → (j : ℕ) × (j < U.used) × (sub (row U.sets j) m ≡ true) × (i ≡ j → ⊥)
   beside i l t =
       let sized = (family m (Memᴰ.head refl)).0 in

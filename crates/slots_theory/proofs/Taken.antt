@@ -68,7 +68,7 @@ module _ (p k m : ℕ) (F : List ℕ) (wide : p ≤ width) (two : 2 ≤ k) (size
   of_one : (s t : ℕ) → sub s m ≡ true → sub t m ≡ true → SlotsJoined k G s t
   of_one s t a b = record { a = m; b = m; in_a = a; in_b = b; chain = alone (Memᴰ.head refl) }
 
-  -- ---- one sub_clique
+  -- ---- one sub-clique
 
   module _ (T : Tables) (h : Sound p k G T) (fit : slots p k G ≤ room T.entries) where
     placed_has : (q : ℕ) → has q m ≡ true → Has p k G T (placed T (out q m) m) (out q m) (find T.sets T.used (out q m))
@@ -95,7 +95,7 @@ module _ (p k m : ℕ) (F : List ℕ) (wide : p ≤ width) (two : 2 ≤ k) (size
               holds = ap (row (appended T s m).sets) e ∙ appended_set T s m h.level free fs;
             })
 
-    -- slot f is one of the clique, used once the sub_clique is placed
+    -- slot f is one of the clique, used once the sub-clique is placed
     module _ (f q : ℕ) (t : has q m ≡ true) (used : f < (placed T (out q m) m).used) (part : sub (row (placed T (out q m) m).sets f) m ≡ true) where
       abbrev P : Tables
       P = placed T (out q m) m
@@ -233,7 +233,7 @@ module _ (p k m : ℕ) (F : List ℕ) (wide : p ≤ width) (two : 2 ≤ k) (size
     all : HasAll p k G T U f m (members width m)
     all = all_have T before_sound fit
 
-    -- each sub_clique is in a slot that ends where f does
+    -- each sub-clique is in a slot that ends where f does
     sub_clique : (u : ℕ) → suc (size u) ≡ k → sub u m ≡ true → (i : ℕ) × (i < U.used) × (row U.sets i ≡ u) × (root_of U.entries i ≡ root_of U.entries f)
     sub_clique u z s =
         let o = one_lacking u m s (z ∙ sym sized) in

@@ -46,7 +46,7 @@ pub slots_too_few : fits_strength box 3 (Weakest 8) 2 2 ≡ false
 unfolding fits_strength
 slots_too_few = refl
 
--- a shared sub_clique has one slot
+-- a shared sub-clique has one slot
 pub slots_shared : fits_strength box 3 (Weakest 5) 2 5 ≡ true
 unfolding fits_strength
 slots_shared = refl

@@ -9,7 +9,7 @@ ghost use Rattle.slots.specs.Model.{find, placed, joined_used, took_part, took_p
 
 use sets::Set;
 
-// The sub_clique s of q, of which find says i, in a slot, and that slot joined to slot first.
+// The sub-clique s of q, of which find says i, in a slot, and that slot joined to slot first.
 fn take_slot(
     sets: &mut [u64],
     entries: &mut [u32],
@@ -36,7 +36,7 @@ fn take_slot(
     n
 }
 
-// The same for the sub_clique of q without the part.
+// The same for the sub-clique of q without the part.
 fn take_part(
     sets: &mut [u64],
     entries: &mut [u32],
