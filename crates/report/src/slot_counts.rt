@@ -5,8 +5,8 @@ use answers::Answer;
 use console::{counted, end, field, text};
 use needs::Needed;
 
-// The bytes of n slots: each has a set, a smallest clique and a union of eight bytes, and a joining entry of four. No sheet of 64 parts needs so many; the test
-// shows that the product fits.
+// The bytes of n slots: each has a set, a smallest clique and a union of eight bytes, and a joining entry of four. No sheet of 64 parts needs so many; the
+// test shows that the product fits.
 fn tables(rt: &impl Print, n: usize) -> bool {
     let most = slots::most_slots();
     if most < n {
