@@ -17,7 +17,7 @@ moved_length s f i h = length-take-le i (drop f s) (omega (arith, length-drop f 
 moved_reads : (s : List ℕ) (f i : ℕ) → f + i < length s → get_or (moved i f s) (f + i) 0 ≡ get_or (drop f s) i 0
 moved_reads s f i h =
     ap (λ (n : ℕ). get_or (moved i f s) n 0) turn ∙ get_or-append-add (take i (drop f s)) (drop i s) f 0 ∙ get_or-drop i s f 0
-      ∙ ap (λ (n : ℕ). get_or s n 0) back ∙ sym (get_or-drop f s i 0)
+    ∙ ap (λ (n : ℕ). get_or s n 0) back ∙ sym (get_or-drop f s i 0)
   where
     turn : f + i ≡ length (take i (drop f s)) + f
     turn = omega (arith, moved_length s f i h)
