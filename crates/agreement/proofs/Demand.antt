@@ -8,8 +8,7 @@ use Prim.Native.Nat.{ℕ, ◌≤◌}
 use native.Mathlib.Omega.{arith}
 use lib.ListN.{length}
 use Rattle.answers.specs.Verdict.{Verdict, accepted, refused, ◌then◌, unless}
-use Rattle.answers.specs.Answers.{Said, counts, says}
-use Rattle.answers.specs.declared.Answer.{Answer}
+use Rattle.answers.specs.Answers.{Answer, Said, counts, says}
 use Rattle.answers.proofs.Laws.{said_count, then_left}
 use Rattle.sets.specs.Lists.{◌∈◌}
 use Rattle.percolation.specs.Percolate.{Community, adjacent, Chain}
@@ -35,8 +34,7 @@ use Rattle.sequential.specs.declared.Stepped.{Stepped}
 use Rattle.sequential.specs.Steps.{check_start, StartMeets, ListingNowMeets}
 use Rattle.sequential.specs.EveryList.{Runs, Claim}
 use Rattle.sequential.proofs.Every.{every_list}
-use Rattle.meeting.specs.declared.Met.{Met}
-use Rattle.meeting.specs.Answers.{tells, meet_says, meet_say, meeting_of, check_pair, MeetingMeets}
+use Rattle.meeting.specs.Answers.{Met, tells, meet_says, meet_say, meeting_of, check_pair, MeetingMeets}
 use Rattle.agreement.specs.Same.{HasLinks, GivesChains, EverySheet}
 
 -- ---- 1 and 2: the listing of a list of steps, and of every sheet with exactly the links that remain

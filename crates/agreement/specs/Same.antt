@@ -1,8 +1,7 @@
 -- A sheet that has exactly the links of a list, equal weights in any order, and demand 3's claim on lists of inserts and takings back and such sheets. Assumes nothing.
 use Rattle.std.specs.Prelude.{◌≡◌, List, [], ℕ}
 use Rattle.answers.specs.Verdict.{accepted}
-use Rattle.answers.specs.Answers.{Said, counts, says}
-use Rattle.answers.specs.declared.Answer.{Answer}
+use Rattle.answers.specs.Answers.{Answer, Said, counts, says}
 use Rattle.sets.specs.Lists.{◌∈◌}
 use Rattle.percolation.specs.Percolate.{ChainListing}
 use Rattle.percolation.specs.Links.{Link, cliques, listing}

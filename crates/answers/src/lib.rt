@@ -1,40 +1,32 @@
 #![tactic(auto)]
 
-// What a call answers: a count, or a refusal with its number and its place; and checks on the way there.
+// What a call answers: a count, or a refusal with its fault and its place; and checks on the way there.
 ghost use Rattle.std.specs.Prelude.{◌≡◌};
-ghost use Rattle.answers.specs.Verdict.{unless, ◌then◌};
+ghost use Rattle.answers.specs.Faults.{number_of};
+ghost use Rattle.answers.specs.Verdict.{unless};
 ghost use Rattle.answers.specs.Model.{verdict};
 
-// Document 01's answer to a call that counts: what the count counts is said at each call. A refusal has document 01's number and place.
-#[derive(Clone, Copy)]
-pub enum Answer {
-    Count(usize),
-    Refused(u8, usize),
+mod fault;
+
+pub use fault::Fault;
+
+// A refusal has document 01's number, that of its fault, and document 01's place.
+#[derive(Clone, Copy, Debug, PartialEq, Eq)]
+pub struct Refusal {
+    pub fault: Fault,
+    pub place: usize,
 }
 
-// What one check on the way says: go on, or a refusal's number and place.
-#[derive(Clone, Copy)]
-pub enum Tried {
-    Pass,
-    Stop(u8, usize),
-}
+// Document 01's answer to a call that counts: what the count counts is said at each call.
+pub type Answer = Result<usize, Refusal>;
 
-// A refusal with the number n and the place a, unless something holds.
-pub fn unless(holds: bool, n: u8, a: usize) -> Tried
-    ensures { verdict result ≡ unless holds n a }
+// A refusal of this fault at this place, unless something holds.
+pub fn require(holds: bool, fault: Fault, place: usize) -> Result<(), Refusal>
+    ensures { verdict result ≡ unless holds (number_of fault) place }
 {
     if holds {
-        return Tried::Pass;
+        Ok(())
+    } else {
+        Err(Refusal { fault, place })
     }
-    Tried::Stop(n, a)
-}
-
-// The first refusal of two checks.
-pub fn then(first: Tried, second: Tried) -> Tried
-    ensures { verdict result ≡ verdict first then verdict second }
-{
-    if let Tried::Stop(n, a) = first {
-        return Tried::Stop(n, a);
-    }
-    second
 }

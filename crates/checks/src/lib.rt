@@ -8,9 +8,19 @@ ghost use Rattle.percolation.specs.Links.{Link, link, inside, cliques};
 ghost use Rattle.percolation.specs.Ranges.{good_count, narrow_count, good_k};
 ghost use Rattle.percolation.specs.Steps.{good_parts, legal};
 ghost use Rattle.checks.specs.Neighbours.{Neighbours};
-ghost use Rattle.checks.specs.Model.{link_number, with_neighbour, marked};
+ghost use Rattle.answers.specs.Model.{fault_number};
+ghost use Rattle.checks.specs.Model.{link_row, link_number, with_neighbour, marked};
 
+use answers::Fault;
 use sets::Set;
+
+// A link: its lower part, its higher part and its weight.
+#[derive(Clone, Copy, Debug, PartialEq, Eq)]
+pub struct LinkRow {
+    pub low: usize,
+    pub high: usize,
+    pub weight: usize,
+}
 
 // A part count is 1 to as many parts as a set can hold.
 pub fn good_count(p: usize) -> bool
@@ -40,30 +50,23 @@ fn good_parts(p: usize, low: usize, high: usize) -> bool
     low < p && (high < p && low < high)
 }
 
-// The first of 6 to 9 that applies to a link, or 0; `before` is the weight of the link before it, the largest weight where there is none.
-pub fn link_number(
-    rows: &[u64],
-    p: usize,
-    low: usize,
-    high: usize,
-    weight: usize,
-    before: usize,
-) -> u8
-    ensures { result ≡ link_number p rows.now before (link low high weight) }
+// The first of 6 to 9 that applies to a link; `before` is the weight of the link before it, the largest weight where there is none.
+pub fn check_link(rows: &[u64], p: usize, link: LinkRow, before: usize) -> Result<(), Fault>
+    ensures { fault_number result ≡ link_number p rows.now before (link_row link) }
 {
-    if !good_parts(p, low, high) {
-        return 6;
+    if !good_parts(p, link.low, link.high) {
+        return Err(Fault::LinkParts);
     }
-    if weight == 0 {
-        return 7;
+    if link.weight == 0 {
+        return Err(Fault::NoWeight);
     }
-    if before < weight {
-        return 8;
+    if before < link.weight {
+        return Err(Fault::Rising);
     }
-    if sets::has(sets::at(rows, low), high) {
-        return 9;
+    if sets::has(sets::at(rows, link.low), link.high) {
+        return Err(Fault::LinkAgain);
     }
-    0
+    Ok(())
 }
 
 // b becomes a neighbour of a.
@@ -92,15 +95,8 @@ pub fn is_clique(rows: &[u64], p: usize, k: usize, s: Set) -> bool
     if !sets::subset(s, sets::upto(p)) {
         return false;
     }
-    let mut rest = s;
-    while !sets::is_empty(rest) {
-        let q = sets::lowest(rest);
-        if !sets::subset(sets::without(s, q), sets::at(rows, q)) {
-            return false;
-        }
-        rest = sets::without(rest, q);
-    }
-    true
+    s.parts()
+        .all(|q| sets::subset(sets::without(s, q), sets::at(rows, q)))
 }
 
 // Whether both ends of a link are parts of s.

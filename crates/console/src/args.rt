@@ -1,8 +1,7 @@
 // The arguments of the program.
 ghost use Rattle.console.specs.Loading.{Within};
 
-use crate::Loaded;
-use crate::say::fail_as;
+use crate::Stopped;
 use std::env::{Env, FillError};
 
 // How many there are, the program's own name among them.
@@ -17,18 +16,15 @@ pub fn arg_count(rt: &impl Env) -> usize {
 }
 
 // Argument i at the start of buf: how many bytes it has. That there is none, or that it is longer than buf, is told by its name.
-pub fn arg(rt: &impl Env, i: usize, name: &[u8], buf: &mut [u8]) -> Loaded
+pub fn arg(rt: &(impl Env + Eprint), i: usize, name: &str, buf: &mut [u8]) -> Result<usize, Stopped>
     ensures { Within 0 result buf.new }
 {
-    match rt.arg(i, buf) {
-        Ok(n) => Loaded::Bytes(n),
-        Err(FillError::TooLong) => {
-            fail_as(name, b"File name too long");
-            Loaded::Failed
-        }
-        Err(FillError::NotPresent) => {
-            fail_as(name, b"Invalid argument");
-            Loaded::Failed
-        }
-    }
+    rt.arg(i, buf).map_err(|e| {
+        let why = match e {
+            FillError::TooLong => "File name too long",
+            FillError::NotPresent => "Invalid argument",
+        };
+        let _ = eprintln!(rt; "{name}: {why}");
+        Stopped::Told
+    })
 }

@@ -1,93 +1,44 @@
-// Words, numbers and lines: answers on standard output, complaints on standard error.
+// Words and numbers: for the trial programs, and complaints on standard error.
 
 ghost use Rattle.std.specs.Prelude.{◌≤◌, length};
 
+use std::fmt;
 use std::io::{Error, ErrorKind, Write};
 
 // The numbers that the system gives to a program's three streams.
 pub const STDIN: i32 = 0;
 
-pub const STDOUT: i32 = 1;
+const STDOUT: i32 = 1;
 
-pub const STDERR: i32 = 2;
+const STDERR: i32 = 2;
 
-// Words that are an answer in one place and a complaint in another.
-pub fn put(fd: i32, t: &[u8]) {
-    io::write_all(fd, t);
-}
+// ---- what the trial programs print, of which nothing is said where standard output takes no more
 
 pub fn text(t: &[u8]) {
-    put(STDOUT, t);
-}
-
-pub fn number(n: usize) {
-    io::print_decimal(STDOUT, n as u64);
+    io::write_all(STDOUT, t);
 }
 
 // A word, then a number.
 pub fn field(word: &[u8], n: usize) {
     text(word);
-    number(n);
+    io::print_decimal(STDOUT, n as u64);
 }
 
-// A number of things: the word in the singular gets an s where the number is not 1.
-pub fn counted(n: usize, word: &[u8]) {
-    number(n);
-    text(word);
-    if n != 1 {
-        text(b"s");
+// ---- numbers of things
+
+// A number and what there are so many of: the word in the singular gets an s where the number is not 1.
+#[derive(Clone, Copy)]
+pub struct Counted<'a>(pub usize, pub &'a str);
+
+impl fmt::Display for Counted<'_> {
+    fn fmt<W: fmt::Write>(&self, f: &mut fmt::Formatter<W>) -> fmt::Result {
+        let Counted(n, word) = *self;
+        let plural = if n == 1 { "" } else { "s" };
+        write!(f, "{n} {word}{plural}")
     }
 }
 
-// Writes all of t to standard output. Where that takes no more it says so, and answers false; of a reader that went away, as `head` does, nothing is said.
-pub fn put_out(rt: &impl Print, t: &[u8]) -> bool {
-    match rt.write_all(t) {
-        Ok(()) => true,
-        Err(e) => {
-            if e.kind() != ErrorKind::BrokenPipe {
-                fail(b"standard output", e);
-            }
-            false
-        }
-    }
-}
-
-// Ends a line, and answers likewise.
-pub fn end(rt: &impl Print) -> bool {
-    put_out(rt, b"\n")
-}
-
-pub fn error(t: &[u8]) {
-    put(STDERR, t);
-}
-
-pub fn error_field(word: &[u8], n: usize) {
-    error(word);
-    io::print_decimal(STDERR, n as u64);
-}
-
-// One line that ends in a word which the user gave.
-pub fn error_of(t: &[u8], word: &[u8]) {
-    error(t);
-    error(word);
-    error(b"\n");
-}
-
-// What failed, by its name, and why.
-pub fn fail_as(name: &[u8], why: &[u8]) {
-    error(name);
-    error(b": ");
-    error(why);
-    error(b"\n");
-}
-
-// The system's words for an error, which its text has before the error's number.
-fn words(text: &str) -> &str {
-    match text.split_once(" (os error ") {
-        Some((words, _)) => words,
-        None => text,
-    }
-}
+// ---- complaints
 
 // The length of an error's text, which is put at the start of buf.
 fn put_error(e: Error, buf: &mut [u8]) -> usize
@@ -99,12 +50,54 @@ fn put_error(e: Error, buf: &mut [u8]) -> usize
     room.saturating_sub(rest.len())
 }
 
-// The same, with the system's words for why.
-pub fn fail(name: &[u8], e: Error) {
-    let mut buf = [0u8; 256];
-    let n = put_error(e, &mut buf);
-    match str::from_utf8(&buf[..n]) {
-        Ok(text) => fail_as(name, words(text).as_bytes()),
-        Err(_) => fail_as(name, b"failed"),
+// Why, in the system's words, which an error's text has before the error's number.
+#[derive(Clone, Copy)]
+struct Words(Error);
+
+impl fmt::Display for Words {
+    fn fmt<W: fmt::Write>(&self, f: &mut fmt::Formatter<W>) -> fmt::Result {
+        let mut buf = [0u8; 256];
+        let n = put_error(self.0, &mut buf);
+        let text = str::from_utf8(&buf[..n]).unwrap_or("failed");
+        f.write_str(
+            text.split_once(" (os error ")
+                .map_or(text, |(words, _)| words),
+        )
+    }
+}
+
+// Why a command ends early: what went wrong was told, or standard output takes no more.
+#[derive(Clone, Copy)]
+pub enum Stopped {
+    Told,
+    Output(Error),
+}
+
+impl From<Error> for Stopped {
+    fn from(e: Error) -> Stopped {
+        Stopped::Output(e)
+    }
+}
+
+// Tells what failed, by its name, and why.
+pub fn fail(rt: &impl Eprint, name: &str, e: Error) -> Stopped {
+    let _ = eprintln!(rt; "{name}: {}", Words(e));
+    Stopped::Told
+}
+
+// Complains about a word that the user gave, which goes out as it came: `Eprint` takes text alone.
+pub fn fail_of(rt: &impl Eprint, before: &str, word: &[u8], behind: &str) -> Stopped {
+    let _ = eprint!(rt; "{before}");
+    io::write_all(STDERR, word);
+    let _ = eprintln!(rt; "{behind}");
+    Stopped::Told
+}
+
+// The end of a program: that standard output took no more is told, unless its reader went away, as `head` does.
+pub fn end(rt: &impl Eprint, done: Result<(), Stopped>) {
+    if let Err(Stopped::Output(e)) = done {
+        if e.kind() != ErrorKind::BrokenPipe {
+            fail(rt, "standard output", e);
+        }
     }
 }

@@ -5,7 +5,7 @@ use mathlib.Core.List.{List}
 use Prim.Native.Nat.{ℕ, ◌≤◌, ◌<◌}
 use lib.ListN.{length}
 use Rattle.answers.specs.Verdict.{Verdict, accepted, ◌then◌, unless, in_order}
-use Rattle.answers.proofs.Laws.{then_left, then_right, then_four, unless_passed, order_each}
+use Rattle.answers.proofs.Laws.{then_go, then_stop, then_left, then_right, then_four, unless_passed, order_each}
 use Rattle.sets.specs.Sets.{full, sub}
 use Rattle.percolation.specs.Ranges.{narrow_count}
 use Rattle.percolation.proofs.Ranges.{narrow_count_lem}
@@ -57,3 +57,6 @@ module _ (d : List ℕ) where
     unfolding check_row
     dump_within i h =
         unless_passed (sub (row_of d i) (full (dump_parts d))) 18 (row_at d i) (order_each (check_row d) (rows_in d) (then_right AllNames AllRows past_front) i h)
+
+-- checks one after the other, and what the first of them say
+pub ruleset checked_front = (then_go, then_stop, front_length, front_most)

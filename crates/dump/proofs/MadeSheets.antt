@@ -9,7 +9,7 @@ use native.Mathlib.Omega.{arith}
 use lib.Dec.{leb}
 use lib.ListN.{length, take, drop, length-drop}
 use lib.Seq.{length-take-le}
-use Rattle.answers.specs.declared.Answer.{Answer}
+use Rattle.answers.specs.Answers.{Answer}
 use Rattle.answers.specs.Verdict.{Verdict, accepted, refused, unless, written}
 use Rattle.answers.specs.Answers.{counts, says, say_of}
 use Rattle.answers.proofs.Laws.{then_left, then_stop, then_go, said_count, say_refused, written_refused}
@@ -19,7 +19,10 @@ use Rattle.sets.proofs.ListLaws.{below_of}
 use Rattle.link_order.specs.Order.{sort_links}
 use Rattle.part_names.specs.Names.{eight_at, AllDiffer}
 use Rattle.part_names.proofs.Form.{names_again, names_distinct, eight_inside}
-use Rattle.sheet.specs.declared.Checked.{Checked}
+use Rattle.std.specs.Prelude.{Result, Err}
+use Rattle.answers.specs.declared.Refusal.{Refusal}
+use Rattle.answers.specs.Faults.{number_of}
+use Rattle.sheet.specs.declared.Counts.{Counts as Read}
 use Rattle.sheet.specs.Sheet.{head_length, parts, list_of, links_of, check_sheet}
 use Rattle.sheet.specs.Network.{Network}
 use Rattle.sheet.specs.Answers.{holds, sheet_says}
@@ -114,6 +117,11 @@ make_refused d old n a r e s =
     let v = then_stop (check_dump d) (unless (leb (length (sheet_from d)) (length old)) 16 0) n a e in
     record { answer = s ∙ sym (say_refused (check_make d (length old)) (length (sheet_from d)) n a v); bytes = sym (written_refused _ _ old n a v) }
 
+-- as the code hands it on
+pub make_stopped : (d old : List ℕ) (r : Answer) (x : Refusal) → r ≡ Err x → check_dump d ≡ refused (number_of x.fault) x.place → MakeMeets d old r old
+unfolding say_of
+make_stopped d old r x e f = make_refused d old (number_of x.fault) x.place r f (ap says e)
+
 -- ---- over the contracts: what the call wrote, the reader reads into lists with room
 
 module _ (d : List ℕ) (b : Bytes d) (out out' : List ℕ) (w : Answer) (c : ℕ) (made : MakeMeets d out w out') (said : says w ≡ counts c) where
@@ -124,7 +132,7 @@ module _ (d : List ℕ) (b : Bytes d) (out out' : List ℕ) (w : Answer) (c : �
   unfolding check_make
   ok = then_left (check_dump d) (unless (leb (length (sheet_from d)) (length out)) 16 0) passed
 
-  pub dump_again : (old new : Network) (r : Checked) → ReadMeets (take c out') old r new → room_for (dump_parts d) (length (links_from d)) old ≡ true
+  pub dump_again : (old new : Network) (r : Result Read Refusal) → ReadMeets (take c out') old r new → room_for (dump_parts d) (length (links_from d)) old ≡ true
       → (sheet_says r ≡ holds (dump_parts d) (length (links_from d))) × Filled (made_network (dump_names d) (links_from d)) old new
   unfolding sheet_from
   dump_again =

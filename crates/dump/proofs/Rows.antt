@@ -27,11 +27,13 @@ module _ (d : List ℕ) where
   unfolding in_order
   rows_none = refl
 
+  pub rows_passed : (i : ℕ) → in_order (check_row d) i ≡ accepted → check_row d i ≡ accepted → in_order (check_row d) (i + 1) ≡ accepted
+  unfolding in_order
+  rows_passed i e t = ap (in_order (check_row d)) (add-one i) ∙ then_both (in_order (check_row d) i) (check_row d i) e t
+
   pub rows_more : (i : ℕ) → in_order (check_row d) i ≡ accepted → sub (row_of d i) (full (dump_parts d)) ≡ true → in_order (check_row d) (i + 1) ≡ accepted
-  unfolding in_order check_row
-  rows_more i e t =
-      ap (in_order (check_row d)) (add-one i)
-      ∙ then_both (in_order (check_row d) i) (check_row d i) e (last_go (sub (row_of d i) (full (dump_parts d))) 18 (row_at d i) t)
+  unfolding check_row
+  rows_more i e t = rows_passed i e (last_go (sub (row_of d i) (full (dump_parts d))) 18 (row_at d i) t)
 
   pub rows_stop : (n i : ℕ) → i < n → in_order (check_row d) i ≡ accepted → sub (row_of d i) (full (dump_parts d)) ≡ false
       → in_order (check_row d) n ≡ refused 18 (row_at d i)

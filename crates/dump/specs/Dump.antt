@@ -1,7 +1,7 @@
 -- The sensor dump: where things stand in it, what it is refused for, and where, and the sheet that is made from it. A dump is a list of bytes. It has one
 -- version and rows of eight bytes whatever becomes of sheets and of sets, so its numbers are its own. Assumes nothing.
 use Rattle.std.specs.Prelude.{◌≡◌, List, ℕ, ◌+◌, ◌*◌, leb, length, get_or, take, drop}
-use Rattle.answers.specs.declared.Answer.{Answer}
+use Rattle.answers.specs.Answers.{Answer}
 use Rattle.answers.specs.Verdict.{Verdict, ◌then◌, unless, in_order, written}
 use Rattle.answers.specs.Answers.{says, say_of}
 use Rattle.sets.specs.Sets.{full, sub}

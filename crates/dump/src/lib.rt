@@ -23,17 +23,14 @@ ghost use Rattle.dump.specs.Dump.{
   MakeMeets,
 };
 
-use answers::{Answer, Tried};
+use answers::{Answer, Fault, Refusal};
 
 // How many pairs of parts a row holds.
 pub fn pairs_in(row: u64) -> usize
     ensures { (result ≡ pairs_in row) × (result ≤ 2016) }
 {
-    let b = u64::count_ones(row) as usize;
-    if b == 0 {
-        return 0;
-    }
-    b * (b - 1) / 2
+    let b = row.count_ones() as usize;
+    b * b.saturating_sub(1) / 2
 }
 
 // ---- where things stand
@@ -59,30 +56,20 @@ fn row_at(d: &[u8], i: usize) -> usize
     8 + 8 * part_count(d) + 8 * i
 }
 
-fn wide(x: usize) -> u64
-    ensures { result ≡ x }
-{
-    x as u64
-}
-
 // Row i: 64 bits, whatever a set of the library has.
 fn row(d: &[u8], i: usize) -> u64
     requires { i < 65536 }
     ensures { (result ≡ row_of d.now i) × (result < 2 ^ 64) }
 {
     let at = row_at(d, i);
-    wide(records::four_at(d, at)) * 4294967296 + wide(records::four_at(d, at + 4))
+    records::four_at(d, at) as u64 * 4294967296 + records::four_at(d, at + 4) as u64
 }
 
 // The row that starts at a place.
 pub fn row_of(d: &[u8], place: usize) -> usize
     ensures { (8 * result ≤ place) × ((i : ℕ) → place ≡ row_at d.now i → result ≡ i) }
 {
-    let first = row_at(d, 0);
-    if place < first {
-        return 0;
-    }
-    (place - first) / 8
+    place.saturating_sub(row_at(d, 0)) / 8
 }
 
 // ---- two sums, equal for a dump and its sheet by dump_sum
@@ -91,12 +78,9 @@ pub fn row_of(d: &[u8], place: usize) -> usize
 pub fn pair_sum(d: &[u8]) -> usize
     ensures { result ≡ sum (map pairs_in (tripped d.now)) }
 {
-    let n = row_count(d);
     let mut pairs = 0;
-    let mut i = 0;
-    while i < n {
+    for i in 0..row_count(d) {
         pairs += pairs_in(row(d, i));
-        i += 1;
     }
     pairs
 }
@@ -105,12 +89,9 @@ pub fn pair_sum(d: &[u8]) -> usize
 pub fn weight_sum(s: &[u8]) -> usize
     ensures { result ≡ weight_sum (links_of s.now) }
 {
-    let m = sheet::link_count(s);
     let mut weight = 0;
-    let mut j = 0;
-    while j < m {
+    for j in 0..sheet::link_count(s) {
         weight += sheet::link(s, j).weight;
-        j += 1;
     }
     weight
 }
@@ -118,20 +99,19 @@ pub fn weight_sum(s: &[u8]) -> usize
 // ---- what a dump is refused for
 
 // 17 at 0, at 3 and at the length, then 4.
-fn front(d: &[u8]) -> Tried
+#[tactic(auto, using(sheet::proofs::Said::in_turn), unfolding(crate::specs::Dump::check_front))]
+fn front(d: &[u8]) -> Result<(), Refusal>
     ensures { verdict result ≡ check_front d.now }
 {
     let n = row_at(d, row_count(d));
-    let p = part_count(d);
-    let mark = answers::unless(sheet::has_mark(d, 80, 82, 68), 17, 0);
-    let version = answers::unless(sheet::has_version(d, 1), 17, 3);
-    let length = answers::unless(sheet::has_length(d, n), 17, d.len());
-    let count = answers::unless(checks::narrow_count(p), 4, 5);
-    answers::then(mark, answers::then(version, answers::then(length, count)))
+    answers::require(sheet::has_mark(d, 80, 82, 68), Fault::Dump, 0)?;
+    answers::require(sheet::has_version(d, 1), Fault::Dump, 3)?;
+    answers::require(sheet::has_length(d, n), Fault::Dump, d.len())?;
+    answers::require(checks::narrow_count(part_count(d)), Fault::PartCount, 5)
 }
 
 // 5, then 21, names in order.
-fn names(d: &[u8], p: usize) -> Tried
+fn names(d: &[u8], p: usize) -> Result<(), Refusal>
     requires { (p < 256) × (dump_name_at p ≤ length d.now) }
     ensures { verdict result ≡ check_names (dump_name d.now) dump_name_at p }
 {
@@ -140,33 +120,26 @@ fn names(d: &[u8], p: usize) -> Tried
 }
 
 // 18, rows in order: those of the first n.
-fn rows_within(d: &[u8], p: usize, n: usize) -> Tried
+fn rows_within(d: &[u8], p: usize, n: usize) -> Result<(), Refusal>
     requires { (p ≡ dump_parts d.now) × (p ≤ 64) × (n ≡ rows_in d.now) × (n < 65536) }
     ensures { verdict result ≡ in_order (check_row d.now) n }
 {
     let all = sets::upto(p);
-    let mut i = 0;
-    while i < n {
+    for i in 0..n {
         let s = sets::from_word(row(d, i));
-        if !sets::subset(s, all) {
-            return Tried::Stop(18, row_at(d, i));
-        }
-        i += 1;
+        answers::require(sets::subset(s, all), Fault::DumpRow, row_at(d, i))?;
     }
-    Tried::Pass
+    Ok(())
 }
 
 // All that a dump is refused for.
-fn check(d: &[u8]) -> Tried
+#[tactic(auto, using(crate::proofs::Accepted::checked_front), unfolding(crate::specs::Dump::check_dump))]
+fn check(d: &[u8]) -> Result<(), Refusal>
     ensures { verdict result ≡ check_dump d.now }
 {
-    if let Tried::Stop(n, a) = front(d) {
-        return Tried::Stop(n, a);
-    }
+    front(d)?;
     let p = part_count(d);
-    if let Tried::Stop(n, a) = names(d, p) {
-        return Tried::Stop(n, a);
-    }
+    names(d, p)?;
     rows_within(d, p, row_count(d))
 }
 
@@ -177,11 +150,8 @@ fn count_rows(d: &[u8], counts: &mut [u16])
     requires { Counts [] counts.old }
     ensures { Counts (tripped d.now) counts.new }
 {
-    let n = row_count(d);
-    let mut i = 0;
-    while i < n {
+    for i in 0..row_count(d) {
         row_counts::count_row(counts, row(d, i));
-        i += 1;
     }
 }
 
@@ -189,9 +159,7 @@ fn count_rows(d: &[u8], counts: &mut [u16])
 pub fn sheet(dump: &[u8], out: &mut [u8]) -> Answer
     ensures { MakeMeets dump.now out.old result out.new }
 {
-    if let Tried::Stop(n, a) = check(dump) {
-        return Answer::Refused(n, a);
-    }
+    check(dump)?;
     let p = part_count(dump);
     let mut counts = [0u16; 4096];
     count_rows(dump, &mut counts);

@@ -1,13 +1,12 @@
 // What the arguments ask for. Arguments that ask for nothing are told on standard error with the usage.
-use crate::numeral::{Number, decimal};
+use crate::numeral::decimal;
 use crate::usage::wrong;
-use check::same;
-use console::arg_count;
+use console::{Stopped, arg_count};
 use std::env::Env;
 
 // A command with k and the threshold as it takes them; Fullest has the part count before k, Meet the place of `--` among the arguments, Mean names from
 // argument 4 on.
-#[derive(Clone, Copy)]
+#[derive(Clone, Copy, Debug, PartialEq, Eq)]
 pub enum Order {
     Help,
     Pack,
@@ -24,21 +23,17 @@ pub enum Order {
     Slots(usize, u16),
     Fullest(usize, usize),
     Live(usize),
-    Nothing,
 }
 
-#[derive(Clone, Copy)]
-enum KT {
-    Are(usize, u16),
-    Not,
+// Up to 2^53 a float holds each whole number.
+const LARGEST_PRODUCT: usize = 9007199254740992;
+
+// What is wrong with the arguments is told, unless they are right.
+fn require(rt: &impl Eprint, right: bool, what: &str) -> Result<(), Stopped> {
+    if right { Ok(()) } else { Err(wrong(rt, what)) }
 }
 
-fn nothing(what: &[u8]) -> Order {
-    wrong(what);
-    Order::Nothing
-}
-
-fn number_at(rt: &impl Env, i: usize) -> Number {
+fn number_at(rt: &impl Env, i: usize) -> Option<usize> {
     let mut word = [0u8; 64];
     let n = rt.arg(i, &mut word).unwrap_or(0);
     decimal(&word[..n])
@@ -48,266 +43,146 @@ fn number_at(rt: &impl Env, i: usize) -> Number {
 fn is_word(rt: &impl Env, i: usize, wanted: &[u8]) -> bool {
     let mut word = [0u8; 16];
     let n = rt.arg(i, &mut word).unwrap_or(0);
-    same(&word[..n], wanted)
-}
-
-fn is_dashes(rt: &impl Env, i: usize) -> bool {
-    is_word(rt, i, b"--")
-}
-
-// The first of the arguments from `from` to before `to` that is `--`; `to` where none is.
-fn dashes(rt: &impl Env, from: usize, to: usize) -> usize {
-    let mut i = from;
-    while i < to {
-        if is_dashes(rt, i) {
-            return i;
-        }
-        i += 1;
-    }
-    to
-}
-
-fn pack(count: usize) -> Order {
-    if count != 2 {
-        return nothing(b"pack takes no argument: it reads a text and writes a sheet");
-    }
-    Order::Pack
-}
-
-fn from_dump(count: usize) -> Order {
-    if count != 3 {
-        return nothing(b"from-dump takes a dump: it writes a sheet");
-    }
-    Order::FromDump
-}
-
-fn show(count: usize) -> Order {
-    if count != 3 {
-        return nothing(b"show takes a sheet");
-    }
-    Order::Show
+    &word[..n] == wanted
 }
 
 // K at argument i; that it is no number is told.
-fn k_at(rt: &impl Env, i: usize) -> Number {
-    let k = number_at(rt, i);
-    if let Number::Not = k {
-        wrong(b"K must be a number, 2 to 6");
-    }
-    k
+fn k_at(rt: &(impl Env + Eprint), i: usize) -> Result<usize, Stopped> {
+    number_at(rt, i).ok_or_else(|| wrong(rt, "K must be a number, 2 to 6"))
 }
 
 // K at argument i and T at argument j, or what is wrong with them told.
-fn k_and_t(rt: &impl Env, i: usize, j: usize) -> KT {
-    let Number::Is(k) = k_at(rt, i) else {
-        return KT::Not;
-    };
-    let t = threshold(number_at(rt, j));
-    if 65535 < t {
-        wrong(b"T must be a number, 0 to 65535");
-        return KT::Not;
-    }
-    KT::Are(k, t as u16)
+fn k_and_t(rt: &(impl Env + Eprint), i: usize, j: usize) -> Result<(usize, u16), Stopped> {
+    let k = k_at(rt, i)?;
+    let t = number_at(rt, j)
+        .and_then(|t| u16::try_from(t).ok())
+        .ok_or_else(|| wrong(rt, "T must be a number, 0 to 65535"))?;
+    Ok((k, t))
 }
 
-// A threshold; one too high for what is none.
-fn threshold(t: Number) -> usize {
-    match t {
-        Number::Is(t) => t,
-        Number::Not => 65536,
+fn listing(rt: &(impl Env + Eprint), count: usize) -> Result<Order, Stopped> {
+    let by_mean = count == 6 && is_word(rt, 2, b"--by-mean");
+    let what = "listing takes K, T and a sheet, with --by-mean before them or not";
+    require(rt, by_mean || count == 5, what)?;
+    if by_mean {
+        let (k, t) = k_and_t(rt, 3, 4)?;
+        return Ok(Order::ByMean(k, t));
     }
+    let (k, t) = k_and_t(rt, 2, 3)?;
+    Ok(Order::Listing(k, t))
 }
 
-fn plain_listing(rt: &impl Env, count: usize) -> Order {
-    if count != 5 {
-        return nothing(b"listing takes K, T and a sheet, with --by-mean before them or not");
-    }
-    match k_and_t(rt, 2, 3) {
-        KT::Are(k, t) => Order::Listing(k, t),
-        KT::Not => Order::Nothing,
-    }
+fn mean(rt: &(impl Env + Eprint), count: usize) -> Result<Order, Stopped> {
+    require(rt, 6 <= count, "mean takes K, T, names and a sheet")?;
+    let (k, t) = k_and_t(rt, 2, 3)?;
+    Ok(Order::Mean(k, t))
 }
 
-fn listing(rt: &impl Env, count: usize) -> Order {
-    if count != 6 {
-        return plain_listing(rt, count);
-    }
-    if !is_word(rt, 2, b"--by-mean") {
-        return nothing(b"listing takes K, T and a sheet, with --by-mean before them or not");
-    }
-    match k_and_t(rt, 3, 4) {
-        KT::Are(k, t) => Order::ByMean(k, t),
-        KT::Not => Order::Nothing,
-    }
+fn by_product(rt: &(impl Env + Eprint)) -> Result<Order, Stopped> {
+    let k = k_at(rt, 2)?;
+    let x = number_at(rt, 4)
+        .filter(|x| *x <= LARGEST_PRODUCT)
+        .ok_or_else(|| wrong(rt, "X must be a whole number, 0 to 9007199254740992"))?;
+    Ok(Order::Product(k, x))
 }
 
-fn mean(rt: &impl Env, count: usize) -> Order {
-    if count < 6 {
-        return nothing(b"mean takes K, T, names and a sheet");
+fn strong(rt: &(impl Env + Eprint), count: usize) -> Result<Order, Stopped> {
+    if count == 6 && is_word(rt, 3, b"product") {
+        return by_product(rt);
     }
-    match k_and_t(rt, 2, 3) {
-        KT::Are(k, t) => Order::Mean(k, t),
-        KT::Not => Order::Nothing,
-    }
+    let by_weakest = count == 6 && is_word(rt, 3, b"weakest");
+    let what = "strong takes K, product X or weakest T, and a sheet";
+    require(rt, by_weakest, what)?;
+    let (k, t) = k_and_t(rt, 2, 4)?;
+    Ok(Order::Weakest(k, t))
 }
 
-fn by_weakest(rt: &impl Env) -> Order {
-    match k_and_t(rt, 2, 4) {
-        KT::Are(k, t) => Order::Weakest(k, t),
-        KT::Not => Order::Nothing,
-    }
+fn meet(rt: &(impl Env + Eprint), count: usize) -> Result<Order, Stopped> {
+    require(rt, 5 <= count, "meet takes K, names, --, names and a sheet")?;
+    let k = k_at(rt, 2)?;
+    let middle = (3..count.saturating_sub(1))
+        .find(|i| is_word(rt, *i, b"--"))
+        .ok_or_else(|| wrong(rt, "meet takes -- between the names of the two cliques"))?;
+    Ok(Order::Meet(k, middle))
 }
 
-// The number typed; where it is none, one above the largest X.
-fn whole(x: Number) -> usize {
-    match x {
-        Number::Is(x) => x,
-        Number::Not => 9007199254740993,
-    }
+fn slots(rt: &(impl Env + Eprint), count: usize) -> Result<Order, Stopped> {
+    require(rt, count == 5, "slots takes K, T and a sheet")?;
+    let (k, t) = k_and_t(rt, 2, 3)?;
+    Ok(Order::Slots(k, t))
 }
 
-// Up to 2^53 a float holds each whole number.
-fn by_product(rt: &impl Env) -> Order {
-    let Number::Is(k) = k_at(rt, 2) else {
-        return Order::Nothing;
-    };
-    let x = whole(number_at(rt, 4));
-    if 9007199254740992 < x {
-        return nothing(b"X must be a whole number, 0 to 9007199254740992");
-    }
-    Order::Product(k, x)
+fn fullest(rt: &(impl Env + Eprint), count: usize) -> Result<Order, Stopped> {
+    require(rt, count == 4, "fullest takes P and K: it writes a sheet")?;
+    let p = number_at(rt, 2).ok_or_else(|| wrong(rt, "P must be a number, 1 to 64"))?;
+    let k = k_at(rt, 3)?;
+    Ok(Order::Fullest(p, k))
 }
 
-fn strong(rt: &impl Env, count: usize) -> Order {
-    if count == 6 {
-        if is_word(rt, 3, b"product") {
-            return by_product(rt);
-        }
-        if is_word(rt, 3, b"weakest") {
-            return by_weakest(rt);
-        }
-    }
-    nothing(b"strong takes K, product X or weakest T, and a sheet")
+// A command that takes no number, by the count of its arguments.
+fn plain(
+    rt: &impl Eprint,
+    order: Order,
+    count: usize,
+    wanted: usize,
+    what: &str,
+) -> Result<Order, Stopped> {
+    require(rt, count == wanted, what)?;
+    Ok(order)
 }
 
-// K of a command that takes K and a sheet; what is wrong is told.
-fn k_before_sheet(rt: &impl Env, count: usize, what: &[u8]) -> Number {
-    if count != 4 {
-        wrong(what);
-        return Number::Not;
-    }
+// K of a command that takes K first, by the count of its arguments.
+fn k_of(
+    rt: &(impl Env + Eprint),
+    count: usize,
+    wanted: usize,
+    what: &str,
+) -> Result<usize, Stopped> {
+    require(rt, count == wanted, what)?;
     k_at(rt, 2)
 }
 
-fn tree(rt: &impl Env, count: usize) -> Order {
-    match k_before_sheet(rt, count, b"tree takes K and a sheet") {
-        Number::Is(k) => Order::Tree(k),
-        Number::Not => Order::Nothing,
+fn command(rt: &(impl Env + Eprint), word: &[u8], count: usize) -> Result<Order, Stopped> {
+    match word {
+        b"help" => Ok(Order::Help),
+        b"pack" => plain(
+            rt,
+            Order::Pack,
+            count,
+            2,
+            "pack takes no argument: it reads a text and writes a sheet",
+        ),
+        b"from-dump" => plain(
+            rt,
+            Order::FromDump,
+            count,
+            3,
+            "from-dump takes a dump: it writes a sheet",
+        ),
+        b"show" => plain(rt, Order::Show, count, 3, "show takes a sheet"),
+        b"listing" => listing(rt, count),
+        b"mean" => mean(rt, count),
+        b"strong" => strong(rt, count),
+        b"tree" => k_of(rt, count, 4, "tree takes K and a sheet").map(Order::Tree),
+        b"page" => k_of(rt, count, 4, "page takes K and a sheet").map(Order::Page),
+        b"meet" => meet(rt, count),
+        b"slots" => slots(rt, count),
+        b"fullest" => fullest(rt, count),
+        b"live" => k_of(
+            rt,
+            count,
+            3,
+            "live takes K: it answers lines of standard input",
+        )
+        .map(Order::Live),
+        _ => Err(wrong(rt, "no such command")),
     }
 }
 
-fn page(rt: &impl Env, count: usize) -> Order {
-    match k_before_sheet(rt, count, b"page takes K and a sheet") {
-        Number::Is(k) => Order::Page(k),
-        Number::Not => Order::Nothing,
-    }
-}
-
-fn meet(rt: &impl Env, count: usize) -> Order {
-    if count < 5 {
-        return nothing(b"meet takes K, names, --, names and a sheet");
-    }
-    let Number::Is(k) = k_at(rt, 2) else {
-        return Order::Nothing;
-    };
-    let last = count - 1;
-    let middle = dashes(rt, 3, last);
-    if middle == last {
-        return nothing(b"meet takes -- between the names of the two cliques");
-    }
-    Order::Meet(k, middle)
-}
-
-fn slots(rt: &impl Env, count: usize) -> Order {
-    if count != 5 {
-        return nothing(b"slots takes K, T and a sheet");
-    }
-    match k_and_t(rt, 2, 3) {
-        KT::Are(k, t) => Order::Slots(k, t),
-        KT::Not => Order::Nothing,
-    }
-}
-
-fn fullest(rt: &impl Env, count: usize) -> Order {
-    if count != 4 {
-        return nothing(b"fullest takes P and K: it writes a sheet");
-    }
-    let Number::Is(p) = number_at(rt, 2) else {
-        return nothing(b"P must be a number, 1 to 64");
-    };
-    let Number::Is(k) = k_at(rt, 3) else {
-        return Order::Nothing;
-    };
-    Order::Fullest(p, k)
-}
-
-fn live(rt: &impl Env, count: usize) -> Order {
-    if count != 3 {
-        return nothing(b"live takes K: it answers lines of standard input");
-    }
-    let Number::Is(k) = k_at(rt, 2) else {
-        return Order::Nothing;
-    };
-    Order::Live(k)
-}
-
-fn command(rt: &impl Env, word: &[u8], count: usize) -> Order {
-    if same(word, b"help") {
-        return Order::Help;
-    }
-    if same(word, b"pack") {
-        return pack(count);
-    }
-    if same(word, b"from-dump") {
-        return from_dump(count);
-    }
-    if same(word, b"show") {
-        return show(count);
-    }
-    if same(word, b"listing") {
-        return listing(rt, count);
-    }
-    if same(word, b"mean") {
-        return mean(rt, count);
-    }
-    if same(word, b"strong") {
-        return strong(rt, count);
-    }
-    if same(word, b"tree") {
-        return tree(rt, count);
-    }
-    if same(word, b"page") {
-        return page(rt, count);
-    }
-    if same(word, b"meet") {
-        return meet(rt, count);
-    }
-    if same(word, b"slots") {
-        return slots(rt, count);
-    }
-    if same(word, b"fullest") {
-        return fullest(rt, count);
-    }
-    if same(word, b"live") {
-        return live(rt, count);
-    }
-    nothing(b"no such command")
-}
-
-pub fn asked(rt: &impl Env) -> Order {
+pub fn asked(rt: &(impl Env + Eprint)) -> Result<Order, Stopped> {
     let count = arg_count(rt);
     if count < 2 {
-        return Order::Help;
+        return Ok(Order::Help);
     }
     let mut word = [0u8; 16];
     let n = rt.arg(1, &mut word).unwrap_or(0);

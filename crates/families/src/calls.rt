@@ -1,133 +1,109 @@
 // The calls that run on a sheet in tables: the space for them, which run answers, and what is printed of the answer.
 use crate::limits::SPACE;
-use crate::{meet, paper};
-use answers::Answer;
+use crate::paper;
+use answers::{Answer, Fault};
+use console::Stopped;
 use meeting::Met;
-use report::{SLOTS, tell_run};
+use report::{Listing, SLOTS, tell_run};
 use runs::Method;
 use sets::Set;
+use slots::Lent;
 
-// A call with k, and with the threshold or the two cliques.
-#[derive(Clone, Copy)]
-pub enum Call {
-    Listing(usize, u16),
-    ByMean(usize, u16),
-    Tree(usize),
-    Page(usize),
-    Meet(usize, Set, Set),
-}
-
-// A call by the run that answers it.
-#[derive(Clone, Copy)]
-enum Run {
-    Listing(Method, usize, u16),
-    Tree(usize),
-    SequentialMeeting(usize, Set, Set),
-    MaximalMeeting(usize, Set, Set),
-}
-
-// A meeting weight as a count: 0 for never, which is no weight.
-fn counted(met: Met) -> Answer {
-    match met {
-        Met::Weight(w) => Answer::Count(w as usize),
-        Met::Never => Answer::Count(0),
-        Met::Refused(n, place) => Answer::Refused(n, place),
-    }
-}
-
-// One run in tables of its own.
-fn in_tables(run: Run, s: &[u8], out: &mut [u8; SPACE]) -> Answer {
+// A run in tables of its own. Never inlined, as the run of a meeting below: the space of tables would lie under every command.
+#[inline(never)]
+fn in_tables<T, F: FnOnce(&mut Lent<'_>) -> T>(run: F) -> T
+    requires { F.IsAlwaysCallable run }
+{
     let mut sets = [0u64; SLOTS];
-    let mut joins = [0u32; SLOTS];
-    let mut low = [0u64; SLOTS];
-    let mut all = [0u64; SLOTS];
-    match run {
-        Run::Listing(method, k, t) => sheet_listing::listing(
-            method, s, k, t, &mut sets, &mut joins, &mut low, &mut all, out,
-        ),
-        Run::Tree(k) => merge_tree::lines(s, k, &mut sets, &mut joins, &mut low, &mut all, out),
-        Run::SequentialMeeting(k, a, b) => {
-            counted(meeting_sequential::meet(s, k, a, b, &mut sets, &mut joins, &mut low, &mut all))
+    let mut entries = [0u32; SLOTS];
+    let mut smallest = [0u64; SLOTS];
+    let mut unions = [0u64; SLOTS];
+    run(&mut Lent {
+        sets: &mut sets,
+        entries: &mut entries,
+        smallest: &mut smallest,
+        unions: &mut unions,
+    })
+}
+
+// ---- which run answers: 15 says that the second one was refused too
+
+fn list_by(method: Method, s: &[u8], k: usize, t: u16, out: &mut [u8; SPACE]) -> Answer {
+    in_tables(|tables| sheet_listing::listing(method, s, k, t, tables, out))
+}
+
+// By the maximal-clique run first, which is the faster one.
+fn list(s: &[u8], k: usize, t: u16, out: &mut [u8; SPACE]) -> Answer {
+    match list_by(Method::Maximal, s, k, t, out) {
+        Err(refusal) if refusal.fault == Fault::Slots => {
+            list_by(Method::Sequential, s, k, t, out)
         }
-        Run::MaximalMeeting(k, a, b) => {
-            counted(meeting_maximal::meet(s, k, a, b, &mut sets, &mut joins, &mut low, &mut all))
+        answer => answer,
+    }
+}
+
+// By the sequential run first.
+#[inline(never)]
+pub fn met(s: &[u8], k: usize, a: Set, b: Set) -> Met {
+    match in_tables(|tables| meeting_sequential::meet(s, k, a, b, tables)) {
+        Err(refusal) if refusal.fault == Fault::Slots => {
+            in_tables(|tables| meeting_maximal::meet(s, k, a, b, tables))
         }
+        met => met,
     }
 }
 
-// Whether there were too few slots.
-fn is_short(answer: Answer) -> bool {
-    match answer {
-        Answer::Count(_) => false,
-        Answer::Refused(n, _) => n == 15,
-    }
+// ---- a call, in space for its answer
+
+pub fn listing(
+    rt: &(impl Print + Eprint),
+    s: &[u8],
+    k: usize,
+    t: u16,
+    out: &mut [u8; SPACE],
+) -> Result<(), Stopped> {
+    let n = list(s, k, t, out).map_err(|refusal| tell_run(rt, s, refusal, k, t))?;
+    let sheet = s;
+    report::families(rt, Listing { sheet, k, out, n }, t)?;
+    Ok(())
 }
 
-// By the first run or, where that takes too many slots, by the second.
-fn either(first: Run, second: Run, s: &[u8], out: &mut [u8; SPACE]) -> Answer {
-    let answer = in_tables(first, s, out);
-    if is_short(answer) {
-        return in_tables(second, s, out);
-    }
-    answer
+pub fn by_mean(
+    rt: &(impl Print + Eprint),
+    s: &[u8],
+    k: usize,
+    t: u16,
+    out: &mut [u8; SPACE],
+) -> Result<(), Stopped> {
+    let n = list(s, k, t, out).map_err(|refusal| tell_run(rt, s, refusal, k, t))?;
+    let sheet = s;
+    report::by_mean(rt, Listing { sheet, k, out, n }, t)
 }
 
-// A listing by the maximal-clique run first, which is the faster one.
-fn list(k: usize, t: u16, s: &[u8], out: &mut [u8; SPACE]) -> Answer {
-    either(
-        Run::Listing(Method::Maximal, k, t),
-        Run::Listing(Method::Sequential, k, t),
-        s,
-        out,
-    )
+// The count of the lines of a tree; of a refused one the slots of all links are told.
+fn lines(rt: &impl Eprint, s: &[u8], k: usize, out: &mut [u8; SPACE]) -> Result<usize, Stopped> {
+    in_tables(|tables| merge_tree::lines(s, k, tables, out)).map_err(|refusal| tell_run(
+        rt, s, refusal, k, 0,
+    ))
 }
 
-// A meeting by the sequential run first.
-fn result(call: Call, s: &[u8], out: &mut [u8; SPACE]) -> Answer {
-    match call {
-        Call::Listing(k, t) => list(k, t, s, out),
-        Call::ByMean(k, t) => list(k, t, s, out),
-        Call::Tree(k) => in_tables(Run::Tree(k), s, out),
-        Call::Page(k) => in_tables(Run::Tree(k), s, out),
-        Call::Meet(k, a, b) => either(
-            Run::SequentialMeeting(k, a, b),
-            Run::MaximalMeeting(k, a, b),
-            s,
-            out,
-        ),
-    }
+pub fn tree(
+    rt: &(impl Print + Eprint),
+    s: &[u8],
+    k: usize,
+    out: &mut [u8; SPACE],
+) -> Result<(), Stopped> {
+    let n = lines(rt, s, k, out)?;
+    report::tree(rt, s, k, out, n)?;
+    Ok(())
 }
 
-fn print(rt: &impl Print, call: Call, s: &[u8], out: &[u8], n: usize) {
-    match call {
-        Call::Listing(k, t) => report::families(rt, s, k, t, out, n),
-        Call::ByMean(k, t) => report::by_mean(rt, s, k, t, out, n),
-        Call::Tree(k) => report::tree(rt, s, k, out, n),
-        Call::Page(_) => paper::print(rt, s, out, n),
-        Call::Meet(_, _, _) => meet::print(rt, n),
-    }
-}
-
-// 15 says that the sequential run was refused too; of a tree or a meeting it counts the slots of all links.
-fn refuse(call: Call, s: &[u8], n: u8, place: usize) {
-    match call {
-        Call::Listing(k, t) => tell_run(s, n, place, k, t),
-        Call::ByMean(k, t) => tell_run(s, n, place, k, t),
-        Call::Tree(k) => tell_run(s, n, place, k, 0),
-        Call::Page(k) => tell_run(s, n, place, k, 0),
-        Call::Meet(k, _, _) => tell_run(s, n, place, k, 0),
-    }
-}
-
-fn answer(rt: &impl Print, call: Call, s: &[u8], out: &mut [u8; SPACE]) {
-    match result(call, s, out) {
-        Answer::Count(n) => print(rt, call, s, out, n),
-        Answer::Refused(n, place) => refuse(call, s, n, place),
-    }
-}
-
-// The space is lent as an array, whose length its type says: the checker would count to it.
-pub fn ask(rt: &impl Print, call: Call, s: &[u8]) {
-    let mut out = [0u8; SPACE];
-    answer(rt, call, s, &mut out);
+pub fn page(
+    rt: &(impl Print + Eprint),
+    s: &[u8],
+    k: usize,
+    out: &mut [u8; SPACE],
+) -> Result<(), Stopped> {
+    let n = lines(rt, s, k, out)?;
+    paper::print(rt, s, out, n)
 }

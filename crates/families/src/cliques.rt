@@ -1,50 +1,28 @@
 // Cliques that are given by the names of their parts.
-use console::{Loaded, arg, error_of};
+use console::{Stopped, arg, fail_of};
 use report::find;
 use sets::Set;
 use std::env::Env;
 
-#[derive(Clone, Copy)]
-enum Named {
-    Part(usize),
-    Nobody,
-}
-
-#[derive(Clone, Copy)]
-pub enum Clique {
-    Of(Set),
-    Unknown,
-}
-
-// The part of p with this name; that there is none is told.
-fn part(s: &[u8], p: usize, word: &[u8]) -> Named {
-    let q = find(s, word, p);
-    if p <= q {
-        error_of(b"no part is called ", word);
-        return Named::Nobody;
-    }
-    Named::Part(q)
-}
-
-// The part that argument i names.
-fn part_of(rt: &impl Env, s: &[u8], p: usize, i: usize) -> Named {
-    let mut word = io::buffer();
-    let Loaded::Bytes(n) = arg(rt, i, b"NAME", &mut word) else {
-        return Named::Nobody;
-    };
-    part(s, p, &word[..n])
+// The part of p that argument i names; that there is none is told.
+fn part_of(rt: &(impl Env + Eprint), s: &[u8], p: usize, i: usize) -> Result<usize, Stopped> {
+    let mut word = [0u8; 4096];
+    let n = arg(rt, i, "NAME", &mut word)?;
+    let word = &word[..n];
+    find(s, word, p).ok_or_else(|| fail_of(rt, "no part is called ", word, ""))
 }
 
 // The parts that the arguments from `from` to before `to` name.
-pub fn clique_of(rt: &impl Env, s: &[u8], p: usize, from: usize, to: usize) -> Clique {
+pub fn clique_of(
+    rt: &(impl Env + Eprint),
+    s: &[u8],
+    p: usize,
+    from: usize,
+    to: usize,
+) -> Result<Set, Stopped> {
     let mut set = sets::empty();
-    let mut i = from;
-    while i < to {
-        match part_of(rt, s, p, i) {
-            Named::Part(q) => set = sets::with(set, q),
-            Named::Nobody => return Clique::Unknown,
-        }
-        i += 1;
+    for i in from..to {
+        set = sets::with(set, part_of(rt, s, p, i)?);
     }
-    Clique::Of(set)
+    Ok(set)
 }

@@ -1,13 +1,13 @@
 // `fullest`: the sheet of a part count with all pairs linked, on standard output.
 use crate::limits::LARGEST_SHEET;
 use crate::pack::put_out;
-use answers::Answer;
+use console::Stopped;
 use report::tell;
 
-pub fn write(rt: &impl Print, p: usize, k: usize) {
+#[inline(never)]
+pub fn write(rt: &(impl Print + Eprint), p: usize, k: usize) -> Result<(), Stopped> {
     let mut out = [0u8; LARGEST_SHEET];
-    match fullest::sheet(p, k, &mut out) {
-        Answer::Count(n) => put_out(rt, &out, n),
-        Answer::Refused(n, place) => tell(&out, n, place),
-    }
+    let n = fullest::sheet(p, k, &mut out).map_err(|refusal| tell(rt, &out, refusal))?;
+    put_out(rt, &out, n)?;
+    Ok(())
 }

@@ -15,50 +15,66 @@ mod paper;
 mod usage;
 
 use args::Order;
-use calls::{Call, ask};
-use console::Loaded;
-use limits::{LONGEST_SHEET, SHEET_SPACE};
+use console::Stopped;
+use limits::{LONGEST_SHEET, SHEET_SPACE, SPACE};
 use std::env::Env;
 use std::fs::Files;
+use usage::USAGE;
 
-fn answer(rt: &(impl Env + Print), order: Order, s: &[u8]) {
+// A call whose answer needs space.
+#[inline(never)]
+fn in_space(rt: &(impl Print + Eprint), order: Order, s: &[u8]) -> Result<(), Stopped> {
+    let mut out = [0u8; SPACE];
+    match order {
+        Order::Listing(k, t) => calls::listing(rt, s, k, t, &mut out),
+        Order::ByMean(k, t) => calls::by_mean(rt, s, k, t, &mut out),
+        Order::Tree(k) => calls::tree(rt, s, k, &mut out),
+        Order::Page(k) => calls::page(rt, s, k, &mut out),
+        _ => Ok(()),
+    }
+}
+
+fn answer(rt: &(impl Env + Print + Eprint), order: Order, s: &[u8]) -> Result<(), Stopped> {
     match order {
         Order::Show => report::show(rt, s),
-        Order::Listing(k, t) => ask(rt, Call::Listing(k, t), s),
-        Order::ByMean(k, t) => ask(rt, Call::ByMean(k, t), s),
         Order::Mean(k, t) => means::mean(rt, s, k, t),
         Order::Weakest(k, t) => strong::weakest(rt, s, k, t),
         Order::Product(k, x) => strong::product(rt, s, k, x),
-        Order::Tree(k) => ask(rt, Call::Tree(k), s),
-        Order::Page(k) => ask(rt, Call::Page(k), s),
         Order::Meet(k, middle) => meet::meet(rt, s, k, middle),
         Order::Slots(k, t) => report::slots(rt, s, k, t),
-        _ => {}
+        _ => in_space(rt, order, s),
     }
 }
 
 // A command on the sheet that the last argument names.
-fn on_sheet(rt: &(impl Env + Files + Print), order: Order) {
+#[inline(never)]
+fn on_sheet(rt: &(impl Env + Files + Print + Eprint), order: Order) -> Result<(), Stopped> {
     let mut input = [0u8; SHEET_SPACE];
-    let Loaded::Bytes(n) = console::last_file(rt, &mut input) else {
-        return;
-    };
+    let n = console::last_file(rt, &mut input)?;
     if LONGEST_SHEET < n {
-        console::tell_long(LONGEST_SHEET);
-        return;
+        return Err(console::tell_long(rt, LONGEST_SHEET));
     }
-    answer(rt, order, &input[0..n]);
+    answer(rt, order, &input[..n])
+}
+
+// Of a usage that was asked for nothing is said where standard output takes no more.
+fn help(rt: &impl Print) -> Result<(), Stopped> {
+    let _ = rt.print(USAGE);
+    Ok(())
+}
+
+fn run(rt: &(impl Env + Files + Input + Print + Eprint)) -> Result<(), Stopped> {
+    match args::asked(rt)? {
+        Order::Help => help(rt),
+        Order::Pack => pack::pack(rt),
+        Order::FromDump => from_dump::from_dump(rt),
+        Order::Fullest(p, k) => full_sheet::write(rt, p, k),
+        Order::Live(k) => live::run(rt, k),
+        order => on_sheet(rt, order),
+    }
 }
 
 fn main(rt: HostRuntime) {
-    let order = args::asked(&rt);
-    match order {
-        Order::Help => usage::help(),
-        Order::Pack => pack::pack(&rt),
-        Order::FromDump => from_dump::from_dump(&rt),
-        Order::Fullest(p, k) => full_sheet::write(&rt, p, k),
-        Order::Live(k) => live::run(&rt, k),
-        Order::Nothing => {}
-        _ => on_sheet(&rt, order),
-    }
+    let done = run(&rt);
+    console::end(&rt, done);
 }

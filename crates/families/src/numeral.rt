@@ -1,42 +1,12 @@
 // The number that a decimal word says.
-ghost use Rattle.std.specs.Prelude.{◌≤◌};
 
-#[derive(Clone, Copy)]
-pub enum Number {
-    Is(usize),
-    Not,
-}
+const LARGEST: usize = 9007199254740999;
 
-// A digit's value; 10 for any other byte.
-fn digit(b: u8) -> usize
-    ensures { result ≤ 10 }
-{
-    if b < b'0' {
-        return 10;
+// The number of a word of digits; none above the largest.
+pub fn decimal(word: &[u8]) -> Option<usize> {
+    if !word.iter().all(|b| b.is_ascii_digit()) {
+        return None;
     }
-    if b'9' < b {
-        return 10;
-    }
-    (b - b'0') as usize
-}
-
-// The number of a word of digits; none above 9,007,199,254,740,999.
-pub fn decimal(word: &[u8]) -> Number {
-    if word.len() == 0 {
-        return Number::Not;
-    }
-    let mut n = 0;
-    let mut i = 0;
-    while i < word.len() {
-        let d = digit(word[i]);
-        if d == 10 {
-            return Number::Not;
-        }
-        if 900719925474099 < n {
-            return Number::Not;
-        }
-        n = 10 * n + d;
-        i += 1;
-    }
-    Number::Is(n)
+    let number = str::from_utf8(word).ok()?.parse::<usize>().ok()?;
+    (number <= LARGEST).then_some(number)
 }

@@ -1,98 +1,78 @@
 // `pack`: a text from standard input as a sheet on standard output.
 use crate::limits::{LARGEST_SHEET, LONGEST_TEXT, TEXT_SPACE};
-use answers::Answer;
-use console::{Loaded, STDERR, error, error_field, read, refused};
+use answers::Refusal;
+use console::{Stopped, read, refuse};
+use link_order::Links;
 use report::{LINKS, NAMES, line_words, tell};
-use text::Text;
+use sheet::{Counts, Network};
+use std::io;
 
 // The place is the byte of the text where the line starts; lines are counted from 1.
-fn tell_fault(number: u8, place: usize, line: usize) {
-    refused(number, place);
-    error_field(b"line ", line);
-    error(b": ");
-    line_words(STDERR, number);
-    error(b"\n");
+fn tell_fault(rt: &impl Eprint, t: &[u8], refusal: Refusal) -> Stopped {
+    let line = words::line_of(t, refusal.place);
+    let words = line_words(refusal.fault);
+    refuse(rt, refusal, format_args!("line {line}: {words}"))
 }
 
-pub fn put_out(rt: &impl Print, out: &[u8], n: usize) {
-    if out.len() < n {
-        return;
-    }
-    console::put_out(rt, &out[0..n]);
+// The first n bytes of an answer.
+pub fn put_out(rt: &impl Print, out: &[u8], n: usize) -> io::Result<()> {
+    rt.write_all(&out[..n.min(out.len())])
 }
 
-fn put_sheet(rt: &impl Print, names: &[u8], lower: &[u16], higher: &[u16], weights: &[u16]) {
+// The first names and links of the lists.
+fn network<'a>(counts: Counts, names: &'a [u8], links: &'a Links<'_>) -> Option<Network<'a>> {
+    let Counts { parts, links: m } = counts;
+    Some(Network {
+        names: names.get(..parts.checked_mul(8)?)?,
+        lower: links.lower.get(..m)?,
+        higher: links.higher.get(..m)?,
+        weights: links.weights.get(..m)?,
+    })
+}
+
+#[inline(never)]
+fn put_sheet(rt: &(impl Print + Eprint), network: Network<'_>) -> Result<(), Stopped> {
     let mut out = [0u8; LARGEST_SHEET];
-    match sheet_writer::write(names, lower, higher, weights, &mut out) {
-        Answer::Count(n) => put_out(rt, &out, n),
-        Answer::Refused(n, place) => tell(&out, n, place),
-    }
+    let n = sheet_writer::write(network, &mut out).map_err(|refusal| tell(rt, &out, refusal))?;
+    put_out(rt, &out, n)?;
+    Ok(())
 }
 
-// The first p names and the first m links of the lists; nothing where they have fewer.
-fn put_network(
-    rt: &impl Print,
-    p: usize,
-    m: usize,
-    names: &[u8],
-    lower: &[u16],
-    higher: &[u16],
-    weights: &[u16],
-) {
-    if names.len() / 8 < p {
-        return;
-    }
-    if lower.len() < m {
-        return;
-    }
-    if higher.len() < m {
-        return;
-    }
-    if weights.len() < m {
-        return;
-    }
-    let end = 8 * p;
-    put_sheet(
-        rt,
-        &names[0..end],
-        &lower[0..m],
-        &higher[0..m],
-        &weights[0..m],
-    );
-}
-
-fn pack_text(rt: &impl Print, t: &[u8]) {
+#[inline(never)]
+fn pack_text(rt: &(impl Print + Eprint), t: &[u8]) -> Result<(), Stopped> {
     let mut names = [0u8; NAMES];
     let mut lower = [0u16; LINKS];
     let mut higher = [0u16; LINKS];
     let mut weights = [0u16; LINKS];
-    match text::read(t, &mut names, &mut lower, &mut higher, &mut weights) {
-        Text::Fine(p, m) => put_network(rt, p, m, &names, &lower, &higher, &weights),
-        Text::Faulty(n, place) => tell_fault(n, place, words::line_of(t, place)),
-    }
-}
-
-// Reads into buf, which has a byte more than a text may have.
-fn pack_into(rt: &(impl Input + Print), buf: &mut [u8]) {
-    let Loaded::Bytes(n) = read(&mut rt.reader(), b"standard input", buf) else {
-        return;
+    let mut links = Links {
+        lower: &mut lower,
+        higher: &mut higher,
+        weights: &mut weights,
     };
+    let counts = text::read(t, &mut names, &mut links).map_err(|refusal| tell_fault(
+        rt, t, refusal,
+    ))?;
+    match network(counts, &names, &links) {
+        Some(network) => put_sheet(rt, network),
+        None => Ok(()),
+    }
+}
+
+// Reads into buf, which has a byte more than a text may have. The space is lent as an array, whose length its type says: the checker would count to it.
+fn pack_into(
+    rt: &(impl Input + Print + Eprint),
+    buf: &mut [u8; TEXT_SPACE],
+) -> Result<(), Stopped> {
+    let n = read(rt, &mut rt.reader(), "standard input", buf)?;
     if LONGEST_TEXT < n {
-        error_field(b"the text is longer than ", LONGEST_TEXT);
-        error(b" bytes\n");
-        return;
+        let _ = eprintln!(rt; "the text is longer than {LONGEST_TEXT} bytes");
+        return Err(Stopped::Told);
     }
-    if n <= buf.len() {
-        pack_text(rt, &buf[0..n]);
-    }
+    pack_text(rt, &buf[..n])
 }
 
-// The space is lent as an array, whose length its type says: the checker would count to it.
-fn pack_array(rt: &(impl Input + Print), buf: &mut [u8; TEXT_SPACE]) {
-    pack_into(rt, buf);
-}
-
-pub fn pack(rt: &(impl Input + Print)) {
+#[inline(never)]
+pub fn pack(rt: &(impl Input + Print + Eprint)) -> Result<(), Stopped> {
     let mut buf = [0u8; TEXT_SPACE];
-    pack_array(rt, &mut buf);
+    pack_into(rt, &mut buf)
 }

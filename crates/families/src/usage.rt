@@ -1,30 +1,23 @@
 // How the program is called.
-use console::{STDERR, STDOUT};
+use console::Stopped;
 
-fn lines(fd: i32) {
-    io::write_all(fd, b"usage:\n");
-    io::write_all(fd, b"  families pack < TEXT > SHEET\n");
-    io::write_all(fd, b"  families from-dump DUMP > SHEET\n");
-    io::write_all(fd, b"  families show SHEET\n");
-    io::write_all(fd, b"  families listing [--by-mean] K T SHEET\n");
-    io::write_all(fd, b"  families mean K T NAME.. SHEET\n");
-    io::write_all(fd, b"  families strong K product X SHEET\n");
-    io::write_all(fd, b"  families strong K weakest T SHEET\n");
-    io::write_all(fd, b"  families tree K SHEET\n");
-    io::write_all(fd, b"  families meet K NAME.. -- NAME.. SHEET\n");
-    io::write_all(fd, b"  families slots K T SHEET\n");
-    io::write_all(fd, b"  families fullest P K > SHEET\n");
-    io::write_all(fd, b"  families live K\n");
-}
+pub const USAGE: &str = "usage:
+  families pack < TEXT > SHEET
+  families from-dump DUMP > SHEET
+  families show SHEET
+  families listing [--by-mean] K T SHEET
+  families mean K T NAME.. SHEET
+  families strong K product X SHEET
+  families strong K weakest T SHEET
+  families tree K SHEET
+  families meet K NAME.. -- NAME.. SHEET
+  families slots K T SHEET
+  families fullest P K > SHEET
+  families live K
+";
 
-pub fn help() {
-    lines(STDOUT);
-}
-
-// What was wrong with the arguments, then the usage.
-pub fn wrong(what: &[u8]) {
-    io::write_all(STDERR, b"families: ");
-    io::write_all(STDERR, what);
-    io::write_all(STDERR, b"\n");
-    lines(STDERR);
+// Tells what is wrong with the arguments, then the usage.
+pub fn wrong(rt: &impl Eprint, what: &str) -> Stopped {
+    let _ = eprint!(rt; "families: {what}\n{USAGE}");
+    Stopped::Told
 }

@@ -6,7 +6,7 @@ ghost use Rattle.answers.specs.Answers.{says, say_of};
 ghost use Rattle.answers.specs.Verdict.{written};
 ghost use Rattle.percolation.specs.Links.{link};
 ghost use Rattle.percolation.specs.Steps.{enough};
-ghost use Rattle.sheet.specs.Answers.{sheet_says, sheet_say, found_says, check_part};
+ghost use Rattle.sheet.specs.Answers.{sheet_says, sheet_say, check_part};
 ghost use Rattle.sheet.specs.Sheet.{name_at};
 ghost use Rattle.sheet.specs.Network.{network, network_of};
 ghost use Rattle.sheet_reader.specs.Reading.{check_read, written_network};
@@ -28,12 +28,14 @@ ghost use Rattle.products.specs.declared.Measure.TheVariants.{Weakest, Product};
 ghost use Rattle.strong_checks.specs.OnSheet.{clique_list, StrengthMeets};
 ghost use Rattle.outcomes.specs.Outcomes.{outcome, shown, sheet_shown, meet_shown, mean_shown, need_shown, Shows, ShowsMeeting, ShowsMean, ShowsNeed, ShowsStep};
 
-use outcomes::{
-    Mean, Need, Outcome, Started, counted, of_answer, of_mean, of_meeting, of_name, of_need,
-    of_sheet, of_step,
-};
+use clique_list::CliqueList;
+use link_order::Links;
+use outcomes::{Mean, Need, Outcome, Started, counted};
 use products::Measure;
 use runs::Method;
+use sequential::Link;
+use sheet::Network;
+use slots::{Lent, View};
 use states::State;
 
 // sheet_reader::read: count is the links, parts the parts.
@@ -48,7 +50,12 @@ pub extern "C" fn families_read(
     ensures value { result ≡ sheet_shown (sheet_say (check_read sheet.now (network names.old lower.old higher.old weights.old)) sheet.now) }
     ensures weights_after { network names.new lower.new higher.new weights.new ≡ written_network (check_read sheet.now (network names.old lower.old higher.old weights.old)) (network_of sheet.now) (network names.old lower.old higher.old weights.old) }
 {
-    of_sheet(sheet_reader::read(sheet, names, lower, higher, weights))
+    let mut links = Links {
+        lower,
+        higher,
+        weights,
+    };
+    Outcome::from(sheet_reader::read(sheet, names, &mut links))
 }
 
 // sheet_writer::write: count is the bytes.
@@ -63,7 +70,13 @@ pub extern "C" fn families_write(
     ensures value { result ≡ shown (say_of (check_write (network names.now lower.now higher.now weights.now) (length out.old)) (length (sheet_of (network names.now lower.now higher.now weights.now)))) }
     ensures out_after { out.new ≡ written (check_write (network names.now lower.now higher.now weights.now) (length out.old)) (sheet_of (network names.now lower.now higher.now weights.now)) out.old }
 {
-    of_answer(sheet_writer::write(names, lower, higher, weights, out))
+    let network = Network {
+        names,
+        lower,
+        higher,
+        weights,
+    };
+    Outcome::from(sheet_writer::write(network, out))
 }
 
 // dump::sheet: count is the bytes.
@@ -71,7 +84,7 @@ pub extern "C" fn families_write(
 pub extern "C" fn families_dump_sheet(dump: &[u8], out: &mut [u8]) -> Outcome
     ensures { Shows (λ a. MakeMeets dump.now out.old a out.new) result }
 {
-    of_answer(dump::sheet(dump, out))
+    Outcome::from(dump::sheet(dump, out))
 }
 
 // sheet::find_name: count is where the eight bytes of the part's name start in the sheet.
@@ -79,7 +92,7 @@ pub extern "C" fn families_dump_sheet(dump: &[u8], out: &mut [u8]) -> Outcome
 pub extern "C" fn families_name(sheet: &[u8], part: usize) -> Outcome
     ensures { result ≡ shown (say_of (check_part sheet.now part) (name_at sheet.now part)) }
 {
-    of_name(sheet::find_name(sheet, part))
+    Outcome::from(sheet::find_name(sheet, part))
 }
 
 // subsets::slot_bound: count is the bound.
@@ -87,7 +100,7 @@ pub extern "C" fn families_name(sheet: &[u8], part: usize) -> Outcome
 pub extern "C" fn families_slot_bound(p: usize, k: usize) -> Outcome
     ensures { result ≡ shown (say_of (check_bound p k) (slot_bound p k)) }
 {
-    of_answer(subsets::slot_bound(p, k))
+    Outcome::from(subsets::slot_bound(p, k))
 }
 
 // subsets::subset_count: count is C(n, r) for n 0 to 64 and r 0 to 6, 0 outside.
@@ -111,7 +124,13 @@ pub extern "C" fn families_start(
 ) -> Started
     ensures { ShowsStep (λ s. StartMeets p k (lent sets.old entries.old smallest.old unions.old) journal.old s (lent sets.new entries.new smallest.new unions.new) journal.new) result }
 {
-    of_step(sequential::start(p, k, sets, entries, smallest, unions, journal))
+    let mut tables = Lent {
+        sets,
+        entries,
+        smallest,
+        unions,
+    };
+    Started::from(sequential::start(p, k, &mut tables, journal))
 }
 
 // sequential::insert: count is 0.
@@ -129,9 +148,18 @@ pub extern "C" fn families_insert(
 ) -> Started
     ensures { ShowsStep (λ s. InsertMeets state (tables sets.old entries.old smallest.old unions.old state.used) journal.old (link lower higher weight) s (tables sets.new entries.new smallest.new unions.new s.state.used) journal.new) result }
 {
-    of_step(sequential::insert(
-        state, sets, entries, smallest, unions, journal, lower, higher, weight,
-    ))
+    let mut tables = Lent {
+        sets,
+        entries,
+        smallest,
+        unions,
+    };
+    let link = Link {
+        low: lower,
+        high: higher,
+        weight,
+    };
+    Started::from(sequential::insert(state, &mut tables, journal, link))
 }
 
 // sequential::take_back: count is 0.
@@ -146,7 +174,13 @@ pub extern "C" fn families_take_back(
 ) -> Started
     ensures { ShowsStep (λ s. BackMeets state (tables sets.old entries.old smallest.old unions.old state.used) journal.old s (tables sets.new entries.new smallest.new unions.new s.state.used) journal.new) result }
 {
-    of_step(sequential::take_back(state, sets, entries, smallest, unions, journal))
+    let mut tables = Lent {
+        sets,
+        entries,
+        smallest,
+        unions,
+    };
+    Started::from(sequential::take_back(state, &mut tables, journal))
 }
 
 // sequential::listing_now: count is the communities.
@@ -161,10 +195,17 @@ pub extern "C" fn families_listing_now(
 ) -> Outcome
     ensures { Shows (λ a. ListingNowMeets state (tables sets.now entries.now smallest.now unions.now state.used) out.old a out.new) result }
 {
-    of_answer(sequential::listing_now(state, sets, entries, smallest, unions, out))
+    let tables = View {
+        sets,
+        entries,
+        smallest,
+        unions,
+    };
+    Outcome::from(sequential::listing_now(state, tables, out))
 }
 
 // sheet_listing::listing by the sequential run: count is the communities.
+#[tactic(auto, unfolding(runs::specs::OnSheet::count_for))]
 #[unsafe(no_mangle)]
 pub extern "C" fn families_listing_sequential(
     sheet: &[u8],
@@ -178,20 +219,18 @@ pub extern "C" fn families_listing_sequential(
 ) -> Outcome
     ensures { Shows (λ a. ListingMeets (slots_for sheet.now k t) sheet.now k t (lent sets.old entries.old smallest.old unions.old) out.old a (lent sets.new entries.new smallest.new unions.new) out.new) result }
 {
-    of_answer(sheet_listing::listing(
-        Method::Sequential,
-        sheet,
-        k,
-        t,
+    let mut tables = Lent {
         sets,
         entries,
         smallest,
         unions,
-        out,
-    ))
+    };
+    let answer = sheet_listing::listing(Method::Sequential, sheet, k, t, &mut tables, out);
+    Outcome::from(answer)
 }
 
 // sheet_listing::listing by the maximal-clique run: count is the communities.
+#[tactic(auto, unfolding(runs::specs::OnSheet::count_for))]
 #[unsafe(no_mangle)]
 pub extern "C" fn families_listing_maximal(
     sheet: &[u8],
@@ -205,17 +244,14 @@ pub extern "C" fn families_listing_maximal(
 ) -> Outcome
     ensures { Shows (λ a. ListingMeets (maximals_for sheet.now k t) sheet.now k t (lent sets.old entries.old smallest.old unions.old) out.old a (lent sets.new entries.new smallest.new unions.new) out.new) result }
 {
-    of_answer(sheet_listing::listing(
-        Method::Maximal,
-        sheet,
-        k,
-        t,
+    let mut tables = Lent {
         sets,
         entries,
         smallest,
         unions,
-        out,
-    ))
+    };
+    let answer = sheet_listing::listing(Method::Maximal, sheet, k, t, &mut tables, out);
+    Outcome::from(answer)
 }
 
 // strength::listing by the weakest link: count is the communities.
@@ -235,9 +271,15 @@ pub extern "C" fn families_listing_weakest(
     ensures { Shows (λ a. StrengthMeets sheet.now k (Weakest t) (clique_list cliques.old products.old) (lent sets.old entries.old smallest.old unions.old) out.old a (clique_list cliques.new products.new) (lent sets.new entries.new smallest.new unions.new) out.new) result }
 {
     let measure = Measure::Weakest(t);
-    of_answer(strength::listing(
-        sheet, k, measure, cliques, products, sets, entries, smallest, unions, out,
-    ))
+    let mut list = CliqueList { cliques, products };
+    let mut tables = Lent {
+        sets,
+        entries,
+        smallest,
+        unions,
+    };
+    let answer = strength::listing(sheet, k, measure, &mut list, &mut tables, out);
+    Outcome::from(answer)
 }
 
 // strength::listing by the product: count is the communities.
@@ -257,9 +299,15 @@ pub extern "C" fn families_listing_product(
     ensures { Shows (λ a. StrengthMeets sheet.now k (Product t) (clique_list cliques.old products.old) (lent sets.old entries.old smallest.old unions.old) out.old a (clique_list cliques.new products.new) (lent sets.new entries.new smallest.new unions.new) out.new) result }
 {
     let measure = Measure::Product(t);
-    of_answer(strength::listing(
-        sheet, k, measure, cliques, products, sets, entries, smallest, unions, out,
-    ))
+    let mut list = CliqueList { cliques, products };
+    let mut tables = Lent {
+        sets,
+        entries,
+        smallest,
+        unions,
+    };
+    let answer = strength::listing(sheet, k, measure, &mut list, &mut tables, out);
+    Outcome::from(answer)
 }
 
 // mean::of_family: count is the links.
@@ -277,7 +325,13 @@ pub extern "C" fn families_family_mean(
     ensures { ShowsMean (λ m. MeanMeets sheet.now k t clique (lent sets.old entries.old smallest.old unions.old) m (lent sets.new entries.new smallest.new unions.new)) result }
 {
     let set = sets::from_word(clique);
-    of_mean(mean::of_family(sheet, k, t, set, sets, entries, smallest, unions))
+    let mut tables = Lent {
+        sets,
+        entries,
+        smallest,
+        unions,
+    };
+    Mean::from(mean::of_family(sheet, k, t, set, &mut tables))
 }
 
 // needs::of_sheet: count is 0.
@@ -285,7 +339,7 @@ pub extern "C" fn families_family_mean(
 pub extern "C" fn families_needed(sheet: &[u8], k: usize, t: u16) -> Need
     ensures { ShowsNeed (λ x. NeedsMeets sheet.now k t x) result }
 {
-    of_need(needs::of_sheet(sheet, k, t))
+    Need::from(needs::of_sheet(sheet, k, t))
 }
 
 // fullest::sheet: count is the bytes.
@@ -293,7 +347,7 @@ pub extern "C" fn families_needed(sheet: &[u8], k: usize, t: u16) -> Need
 pub extern "C" fn families_fullest_sheet(p: usize, k: usize, out: &mut [u8]) -> Outcome
     ensures { Shows (λ a. FullMeets p k out.old a out.new) result }
 {
-    of_answer(fullest::sheet(p, k, out))
+    Outcome::from(fullest::sheet(p, k, out))
 }
 
 // page::rows: count is the rows.
@@ -301,7 +355,7 @@ pub extern "C" fn families_fullest_sheet(p: usize, k: usize, out: &mut [u8]) -> 
 pub extern "C" fn families_page_rows(sheet: &[u8], lines: &[u8]) -> Outcome
     ensures { Shows (λ a. RowsMeets sheet.now lines.now a) result }
 {
-    of_answer(page::rows(sheet, lines))
+    Outcome::from(page::rows(sheet, lines))
 }
 
 // page::write: count is the rows.
@@ -309,7 +363,7 @@ pub extern "C" fn families_page_rows(sheet: &[u8], lines: &[u8]) -> Outcome
 pub extern "C" fn families_page(sheet: &[u8], lines: &[u8], out: &mut [u8]) -> Outcome
     ensures { Shows (λ a. PageMeets sheet.now lines.now out.old a out.new) result }
 {
-    of_answer(page::write(sheet, lines, out))
+    Outcome::from(page::write(sheet, lines, out))
 }
 
 // meeting_sequential::meet: count is the weight, 0 for never.
@@ -328,7 +382,14 @@ pub extern "C" fn families_meeting_sequential(
 {
     let first = sets::from_word(a);
     let second = sets::from_word(b);
-    of_meeting(meeting_sequential::meet(sheet, k, first, second, sets, entries, smallest, unions))
+    let mut tables = Lent {
+        sets,
+        entries,
+        smallest,
+        unions,
+    };
+    let met = meeting_sequential::meet(sheet, k, first, second, &mut tables);
+    Outcome::from(met)
 }
 
 // meeting_maximal::meet: count is the weight, 0 for never.
@@ -347,7 +408,14 @@ pub extern "C" fn families_meeting_maximal(
 {
     let first = sets::from_word(a);
     let second = sets::from_word(b);
-    of_meeting(meeting_maximal::meet(sheet, k, first, second, sets, entries, smallest, unions))
+    let mut tables = Lent {
+        sets,
+        entries,
+        smallest,
+        unions,
+    };
+    let met = meeting_maximal::meet(sheet, k, first, second, &mut tables);
+    Outcome::from(met)
 }
 
 // merge_tree::lines: count is the lines.
@@ -363,5 +431,11 @@ pub extern "C" fn families_tree(
 ) -> Outcome
     ensures { Shows (λ a. TreeMeets sheet.now k (lent sets.old entries.old smallest.old unions.old) out.old a (lent sets.new entries.new smallest.new unions.new) out.new) result }
 {
-    of_answer(merge_tree::lines(sheet, k, sets, entries, smallest, unions, out))
+    let mut tables = Lent {
+        sets,
+        entries,
+        smallest,
+        unions,
+    };
+    Outcome::from(merge_tree::lines(sheet, k, &mut tables, out))
 }

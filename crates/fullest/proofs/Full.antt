@@ -1,15 +1,19 @@
 -- The fullest sheet: accepted by the reader, with all pairs linked in order; and what the call did. Assumes nothing.
 use mathlib.Core.Path.{◌≡◌, sym, ap, ap₂, ◌∙◌, subst}
-use mathlib.Core.Bool.{true, false}
+use mathlib.Core.Bool.{true}
 use mathlib.Core.List.{List}
 use Prim.Native.Nat.{ℕ, ◌+◌, ◌*◌, ◌≤◌}
 use native.Mathlib.Omega.{arith}
 use lib.Dec.{leb}
 use lib.ListN.{length, replicate, get_or-replicate}
 use Rattle.answers.specs.Verdict.{Verdict, accepted, refused, unless, written}
-use Rattle.answers.specs.Answers.{refuses, says, say_of}
-use Rattle.answers.specs.declared.Answer.{Answer}
-use Rattle.answers.proofs.Laws.{stop, go, say_refused, written_refused}
+use Rattle.answers.specs.Answers.{say_of}
+use Rattle.answers.specs.Answers.{Answer}
+use Rattle.answers.proofs.Laws.{go}
+use Rattle.std.specs.Prelude.{Err}
+use Rattle.answers.specs.declared.Refusal.{Refusal}
+use Rattle.answers.specs.Faults.{number_of}
+use Rattle.sheet.proofs.Said.{refused_writes}
 use Rattle.percolation.specs.Ranges.{narrow_count, good_k}
 use Rattle.percolation.proofs.Ranges.{narrow_count_lem}
 use Rattle.sheet.specs.Sheet.{parts, links_of, check_sheet}
@@ -46,21 +50,13 @@ fullest_read p good =
 
 -- ---- what the call did
 
+pub full_refused : (p k : ℕ) (old : List ℕ) (r : Answer) (x : Refusal) → r ≡ Err x → check_full p k (length old) ≡ refused (number_of x.fault) x.place
+    → FullMeets p k old r old
+full_refused p k old r x e f =
+    let t = refused_writes (check_full p k (length old)) (length (full_sheet p)) (full_sheet p) old r x e f in
+    record { answer = t.0; bytes = t.1 }
+
 module _ (p k : ℕ) (old : List ℕ) (r : Answer) (out : List ℕ) where
-  refusing : (n a : ℕ) → check_full p k (length old) ≡ refused n a → says r ≡ refuses n a → out ≡ old → FullMeets p k old r out
-  refusing n a e told same = record {
-    answer = told ∙ sym (say_refused (check_full p k (length old)) (length (full_sheet p)) n a e);
-    bytes = same ∙ sym (written_refused (check_full p k (length old)) (full_sheet p) old n a e);
-  }
-
-  pub full_four : narrow_count p ≡ false → says r ≡ refuses 4 0 → out ≡ old → FullMeets p k old r out
-  unfolding check_full
-  full_four e = refusing 4 0 (stop (narrow_count p) 4 0 _ e)
-
-  pub full_ten : narrow_count p ≡ true → good_k k ≡ false → says r ≡ refuses 10 0 → out ≡ old → FullMeets p k old r out
-  unfolding check_full
-  full_ten e g = refusing 10 0 (go (narrow_count p) 4 0 _ e ∙ stop (good_k k) 10 0 _ g)
-
   -- from the table of ones, and the names as the code lends them
   pub full_written : narrow_count p ≡ true → good_k k ≡ true → (x : List ℕ) → x ≡ part_names p
       → WriteMeets (made_network x (weighed (weight_at (replicate 4096 1)) p)) old r out → FullMeets p k old r out

@@ -21,18 +21,6 @@ use Rattle.fullest.specs.Fullest.{part_name, part_names}
 -- ---- byte by byte
 
 module _ (q : ℕ) where
-  pub byte_mark : (j n : ℕ) → j ≡ 0 → n ≡ 80 → n ≡ get_or (part_name q) j 0
-  unfolding part_name
-  byte_mark j n e h = h ∙ ap (λ (x : ℕ). get_or (part_name q) x 0) (sym e)
-
-  pub byte_tens : (j n : ℕ) → j ≡ 1 → n ≡ 48 + q / 10 → n ≡ get_or (part_name q) j 0
-  unfolding part_name
-  byte_tens j n e h = h ∙ ap (λ (x : ℕ). get_or (part_name q) x 0) (sym e)
-
-  pub byte_ones : (j n : ℕ) → j ≡ 2 → n ≡ 48 + q % 10 → n ≡ get_or (part_name q) j 0
-  unfolding part_name
-  byte_ones j n e h = h ∙ ap (λ (x : ℕ). get_or (part_name q) x 0) (sym e)
-
   pub byte_space : (j : ℕ) → (j ≡ 0 → ⊥) → (j ≡ 1 → ⊥) → (j ≡ 2 → ⊥) → j < 8 → 32 ≡ get_or (part_name q) j 0
   unfolding part_name
   byte_space zero a b c l = absurd (a refl)

@@ -11,13 +11,15 @@ use lib.Seq.{take_at}
 use borrow.Author.Tests.{le-leb}
 use Rattle.answers.specs.Verdict.{Verdict, accepted, ◌then◌, unless}
 use Rattle.answers.specs.Answers.{counts, says, say_of}
-use Rattle.answers.specs.declared.Answer.{Answer}
+use Rattle.answers.specs.Answers.{Answer}
 use Rattle.answers.proofs.Laws.{then_left, then_right, then_both, last_go, unless_passed, say_accepted, said_count, written_accepted}
 use Rattle.sets.specs.Value.{width}
 use Rattle.sets.proofs.Tests.{and_intro}
 use Rattle.percolation.specs.Ranges.{narrow_count, good_count, good_k}
 use Rattle.percolation.proofs.Ranges.{narrow_count_lem}
-use Rattle.sheet.specs.declared.Checked.{Checked}
+use Rattle.std.specs.Prelude.{Result}
+use Rattle.answers.specs.declared.Refusal.{Refusal}
+use Rattle.sheet.specs.declared.Counts.{Counts}
 use Rattle.sheet.specs.Sheet.{parts, check_sheet}
 use Rattle.sheet.specs.Network.{Network}
 use Rattle.sheet.specs.Answers.{holds, sheet_says}
@@ -63,7 +65,7 @@ module _ (p k : ℕ) (old out : List ℕ) (a : Answer) (c : ℕ) (wrote : FullMe
   -- ---- the reader
 
   -- reads what was written into lists with room: p parts, their names, and all pairs in order
-  pub fullest_again : (before after : Network) (r : Checked) → ReadMeets (take c out) before r after → room_for p (length (full_links p)) before ≡ true
+  pub fullest_again : (before after : Network) (r : Result Counts Refusal) → ReadMeets (take c out) before r after → room_for p (length (full_links p)) before ≡ true
       → (sheet_says r ≡ holds p (length (full_links p))) × Filled (made_network (part_names p) (full_links p)) before after
   unfolding full_sheet
   fullest_again =
@@ -81,7 +83,7 @@ module _ (p k : ℕ) (old out : List ℕ) (a : Answer) (c : ℕ) (wrote : FullMe
   asked = then_both (check_sheet (full_sheet p)) (unless (good_k k) 10 0) (fullest_read p four).0 (last_go (good_k k) 10 0 ten)
 
   -- what was written is told to need, at t 1, as many slots as the slot bound
-  pub fullest_told : (r : Needed) → NeedsMeets (take c out) k 1 r → (x : Need) × (need_says r ≡ gives x) × (x.slots ≡ slot_bound p k)
+  pub fullest_told : (r : Result Needed Refusal) → NeedsMeets (take c out) k 1 r → (x : Need) × (need_says r ≡ gives x) × (x.slots ≡ slot_bound p k)
   unfolding need_say need_for
   fullest_told r meets =
       let m : NeedsMeets (full_sheet p) k 1 r = subst (λ (s : List ℕ). NeedsMeets s k 1 r) told_full meets in
@@ -99,8 +101,8 @@ module _ (p k : ℕ) (old out : List ℕ) (a : Answer) (c : ℕ) (wrote : FullMe
       (then_both (unless (good_count p) 4 0) (unless (good_k k) 10 0) (last_go (good_count p) 4 0 good) (last_go (good_k k) 10 0 ten))
 
   -- and no sheet of as many parts is told to need more, at any threshold
-  pub fullest_tops : (r : Needed) → NeedsMeets (take c out) k 1 r → (x : Need) → need_says r ≡ gives x
-      → (s : List ℕ) (t : ℕ) → parts s ≡ p → (q : Needed) → NeedsMeets s k t q → (y : Need) → need_says q ≡ gives y → y.slots ≤ x.slots
+  pub fullest_tops : (r : Result Needed Refusal) → NeedsMeets (take c out) k 1 r → (x : Need) → need_says r ≡ gives x
+      → (s : List ℕ) (t : ℕ) → parts s ≡ p → (q : Result Needed Refusal) → NeedsMeets s k t q → (y : Need) → need_says q ≡ gives y → y.slots ≤ x.slots
   unfolding check_needs need_for
   fullest_tops r meets x e s t same q meets' y f =
       let n = told_need (take c out) k 1 r meets x e in

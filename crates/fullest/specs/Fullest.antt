@@ -3,7 +3,7 @@ use Rattle.std.specs.Prelude.{◌≡◌, ℕ, ◌+◌, ◌/◌, ◌%◌, leb, le
 use mathlib.Core.List.{List, [], ◌∷◌, map, flatten}
 use Rattle.answers.specs.Verdict.{Verdict, ◌then◌, unless, written}
 use Rattle.answers.specs.Answers.{says, say_of}
-use Rattle.answers.specs.declared.Answer.{Answer}
+use Rattle.answers.specs.Answers.{Answer}
 use Rattle.sets.specs.Lists.{below}
 use Rattle.percolation.specs.Links.{Link}
 use Rattle.percolation.specs.Ranges.{narrow_count, good_k}

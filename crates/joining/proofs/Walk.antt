@@ -1,17 +1,17 @@
 -- What the loops of `root`, `halve` and `steady` keep, step by step. Assumes nothing.
 use mathlib.Core.Path.{◌≡◌, refl, sym, ap, ◌∙◌}
-use mathlib.Core.Bool.{Bool, true, false}
 use mathlib.Core.Logic.{◌⊎◌, inl, inr}
 use mathlib.Core.List.{List}
-use Prim.Native.Nat.{ℕ, zero, suc, ◌-◌, ◌≤◌, ◌<◌, max}
+use Prim.Native.Nat.{ℕ, zero, suc, ◌-◌, ◌≤◌, ◌<◌}
 use native.Mathlib.Nat.{sub-zero, suc-sub-suc}
 use native.Mathlib.Omega.{arith}
 use lib.ListN.{length, get_or, set, length-set, get_or-eq_default}
 use lib.Dec.{leb}
-use borrow.Author.Tests.{le-leb, lt-leb}
+use borrow.Author.Tests.{le-leb}
+use Rattle.std.specs.List.{list_all, range_with_len}
 use Rattle.sets.specs.Lists.{all, below}
-use Rattle.sets.proofs.Tests.{never, not_so, lt_or_le}
-use Rattle.sets.proofs.ListLaws.{all_at, all_of, below_of, below_at, get_d_in}
+use Rattle.sets.proofs.Tests.{lt_or_le}
+use Rattle.sets.proofs.ListLaws.{get_d_in, all_same, all_list, range_below}
 use Rattle.joining.specs.Entries.{root_of}
 use Rattle.joining.specs.Model.{halved_from, halved}
 use Rattle.joining.proofs.Follow.{root_go, root_stop, shortcut, halve_stop, halve_last, halve_go}
@@ -85,23 +85,19 @@ module _ (es₀ es : List ℕ) (i r f : ℕ) (h : Halving es₀ i es r) (p : f �
 
 -- ---- entries not above their slots
 
--- an entry is above its slot exactly when it is read so with 0 past the table's end
-pub entry_read : (es : List ℕ) (i : ℕ) → (get_or es i 0 ≤ get_or es i i) × (get_or es i i ≤ max i (get_or es i 0))
+-- an entry is above its slot exactly when it is so with 0 past the table's end
+entry_read : (es : List ℕ) (i : ℕ) → leb (get_or es i i) i ≡ leb (get_or es i 0) i
 entry_read es i = go (lt_or_le i (length es))
   where
-    go : (i < length es) ⊎ (length es ≤ i) → (get_or es i 0 ≤ get_or es i i) × (get_or es i i ≤ max i (get_or es i 0))
-    go (inl h) = let e = get_d_in es i 0 i h in (omega arith, omega arith)
+    go : (i < length es) ⊎ (length es ≤ i) → leb (get_or es i i) i ≡ leb (get_or es i 0) i
+    go (inl h) = ap (λ (e : ℕ). leb e i) (sym (get_d_in es i 0 i h))
     go (inr h) =
         let e = get_or-eq_default es 0 h in
         let d = get_or-eq_default es i h in
-        (omega arith, omega arith)
+        le-leb (get_or es i i) i (omega arith) ∙ sym (le-leb (get_or es i 0) i (omega arith))
 
-module _ (es : List ℕ) (used : ℕ) where
-  abbrev low : ℕ → Bool
-  low i = leb (get_or es i 0) i
-
-  pub steady_yes : (n : ℕ) → used ≤ n → ((i : ℕ) → i < n → get_or es i 0 ≤ i) → true ≡ all (λ i. leb (get_or es i 0) i) (below used)
-  steady_yes n l h = sym (all_at low (below used) (λ i m. le-leb (get_or es i 0) i (h i (omega (arith, below_of used m)))))
-
-  pub steady_not : (i : ℕ) → i < used → i < get_or es i 0 → false ≡ all (λ i. leb (get_or es i 0) i) (below used)
-  steady_not i l h = sym (not_so (all low (below used)) (λ t. never (low i) (all_of low (below used) t (below_at i used l)) (lt-leb (get_or es i 0) i h)))
+-- as an iterator over the slots tests them
+pub steady_counted : (es : List ℕ) (n : ℕ) → list_all (λ i. leb (get_or es i i) i) (range_with_len 0 n) ≡ all (λ i. leb (get_or es i 0) i) (below n)
+steady_counted es n =
+    ap (list_all (λ i. leb (get_or es i i) i)) (range_below n) ∙ all_list (λ i. leb (get_or es i i) i) (below n)
+    ∙ all_same (λ i. leb (get_or es i i) i) (λ i. leb (get_or es i 0) i) (below n) (entry_read es)

@@ -1,7 +1,7 @@
 #![tactic(auto)]
 
 // Joining entries, a union-find over lent numbers: where following them ends, ways made shorter, and whether none points up.
-ghost use Rattle.std.specs.Prelude.{◌≡◌, leb, eqb, length, get_or, replicate, ◌≤◌};
+ghost use Rattle.std.specs.Prelude.{◌≡◌, MatchOption, leb, eqb, length, get_or, replicate, ◌≤◌, ◌<◌};
 ghost use Rattle.sets.specs.Lists.{all, below};
 ghost use Rattle.joining.specs.Entries.{root_of};
 ghost use Rattle.joining.specs.Model.{halved};
@@ -10,25 +10,26 @@ ghost use Rattle.joining.specs.Model.{halved};
 fn entry(entries: &[u32], i: usize) -> usize
     ensures { result ≡ get_or entries.now i i }
 {
-    if i < entries.len() {
-        entries[i] as usize
-    } else {
-        i
-    }
+    entries.get(i).map_or(i, |e| *e as usize)
 }
 
-// Where following joining entries (the union-find parents) from slot i ends: an entry that is not below its slot is not followed.
+// The joining entry of slot i, if it is below the slot: only such an entry is followed.
+fn next(entries: &[u32], i: usize) -> Option<usize>
+    ensures { MatchOption result (i ≤ get_or entries.now i i) (λ e. (e ≡ get_or entries.now i i) × (e < i)) }
+{
+    let e = entry(entries, i);
+    (e < i).then_some(e)
+}
+
+// Where following joining entries (the union-find parents) from slot i ends.
 pub fn root(entries: &[u32], i: usize) -> usize
     ensures { (result ≡ root_of entries.now i) × (result ≤ i) }
 {
     let mut r = i;
-    loop {
-        let e = entry(entries, r);
-        if r <= e {
-            return r;
-        }
+    while let Some(e) = next(entries, r) {
         r = e;
     }
+    r
 }
 
 // Whether slot i is its own end.
@@ -44,42 +45,26 @@ pub fn halve(entries: &mut [u32], i: usize) -> usize
     ensures entries_after { entries.new ≡ halved entries.old i }
 {
     let mut r = i;
-    loop {
-        let f = entry(entries, r);
-        if r <= f {
-            return r;
-        }
-        let g = entry(entries, f);
-        if f <= g {
+    while let Some(f) = next(entries, r) {
+        let Some(g) = next(entries, f) else {
             return f;
-        }
+        };
         entries[r] = entries[f];
         r = g;
     }
+    r
 }
 
 // Every entry becomes zero.
 pub fn clear_entries(entries: &mut [u32])
     ensures { entries.new ≡ replicate (length entries.old) 0 }
 {
-    let mut i = 0;
-    while i < entries.len() {
-        entries[i] = 0;
-        i += 1;
-    }
+    entries.fill(0);
 }
 
 // Whether no used entry is above its slot number.
 pub fn steady(entries: &[u32], used: usize) -> bool
     ensures { result ≡ all (λ i. leb (get_or entries.now i 0) i) (below used) }
 {
-    let mut i = 0;
-    while i < used {
-        let next = i + 1;
-        if next <= entry(entries, i) {
-            return false;
-        }
-        i = next;
-    }
-    true
+    (0..used).all(|i| entry(entries, i) <= i)
 }

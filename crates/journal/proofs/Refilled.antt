@@ -12,9 +12,12 @@ use Rattle.sets.specs.Value.{width, row, no_rows}
 use Rattle.sets.proofs.Laws.{has_empty}
 use Rattle.sets.proofs.Parts.{same_parts, meet_l}
 use Rattle.sets.proofs.Tests.{never, iff}
-use Rattle.slots.specs.Tables.{Tables, tables}
+use Rattle.percolation.specs.Links.{Link}
+use Rattle.slots.specs.Tables.{Tables}
 use Rattle.search.specs.Model.{over_each, sum_each, near, found, counted, between, new_cliques, cap}
-use Rattle.runs.specs.Lent.{lent, cleared}
+use Rattle.slots.specs.declared.Lent.{Lent}
+use Rattle.slots.specs.Lent.{tables_of}
+use Rattle.runs.specs.Lent.{cleared}
 use Rattle.runs.specs.Model.{took_links}
 use Rattle.journal.specs.Model.{entry_link, readable, makes_none, refilled}
 
@@ -35,19 +38,20 @@ all_counted R (suc w) C t = each (all_counted R w) C
         ap₂ ◌+◌ (ap (counted false R w (near R q B)) (meet_empty (row R q)) ∙ ih (near R q B) (into q t)) (each ih B)
         ∙ sym (length-append (found R w (near R q B) (into q t)) (over_each (λ p D. found R w (near R p D) (into p t)) B))
 
-pub none_made : (R : List ℕ) (k e a b x y c : ℕ) → a ≡ (entry_link e).low → b ≡ (entry_link e).high → x ≡ meet (row R a) (row R b) → y ≡ 0
+pub none_made : (R : List ℕ) (k e : ℕ) (l : Link) → l ≡ entry_link e → (x y c : ℕ) → x ≡ meet (row R l.low) (row R l.high) → y ≡ 0
     → c ≡ min (counted false R (k - 2) (members width x) y) cap → eqb c 0 ≡ makes_none R k e
 unfolding makes_none new_cliques between
-none_made R k e a b x y c ea eb ex ey ec = same ∙ ap₂ (λ (i j : ℕ). eqb (length (found R (k - 2) (members width (meet (row R i) (row R j))) (into j (one i)))) 0) ea eb
+none_made R k e l link_is x y c ex ey ec =
+    same ∙ ap (λ (m : Link). eqb (length (found R (k - 2) (members width (meet (row R m.low) (row R m.high))) (into m.high (one m.low)))) 0) link_is
   where
     n : ℕ
-    n = length (found R (k - 2) (members width (meet (row R a) (row R b))) (into b (one a)))
+    n = length (found R (k - 2) (members width (meet (row R l.low) (row R l.high))) (into l.high (one l.low)))
 
     is : c ≡ min n cap
     is =
         ec
         ∙ (λ i. min (counted false R (k - 2) (members width (ex i)) (ey i)) cap)
-        ∙ ap (λ (z : ℕ). min z cap) (all_counted R (k - 2) (members width (meet (row R a) (row R b))) (into b (one a)))
+        ∙ ap (λ (z : ℕ). min z cap) (all_counted R (k - 2) (members width (meet (row R l.low) (row R l.high))) (into l.high (one l.low)))
 
     same : eqb c 0 ≡ eqb n 0
     same = iff (eqb c 0) (eqb n 0) (λ t. eq-eqb n 0 (omega (arith, eqb-true c 0 t, is))) (λ t. eq-eqb c 0 (omega (arith, eqb-true n 0 t, is)))
@@ -68,13 +72,13 @@ module _ (p k : ℕ) (R : List ℕ) (T : Tables) (J : List ℕ) (n : ℕ) where
   refill_made t = ap (λ (b : Bool). cond b T (took_links k no_rows (cleared T) (readable p (take n J)))) t
 
 -- as the code has them
-module _ (p k : ℕ) (R s e m u : List ℕ) (used : ℕ) (J : List ℕ) (n x : ℕ) (at : x ≡ get_or J n 0) where
-  pub code_kept : true ≡ makes_none R k x → tables s e m u used ≡ refilled p k R (tables s e m u used) J n
-  code_kept t = sym (refill_kept p k R (tables s e m u used) J n (ap (makes_none R k) (sym at) ∙ sym t))
+module _ (p k : ℕ) (R : List ℕ) (l : Lent) (used : ℕ) (J : List ℕ) (n x : ℕ) (at : x ≡ get_or J n 0) where
+  pub code_kept : true ≡ makes_none R k x → tables_of l used ≡ refilled p k R (tables_of l used) J n
+  code_kept t = sym (refill_kept p k R (tables_of l used) J n (ap (makes_none R k) (sym at) ∙ sym t))
 
-  pub code_made : false ≡ makes_none R k x → (C U : Tables) (Q : List ℕ) → C ≡ cleared (lent s e m u) → Q ≡ no_rows
-      → U ≡ took_links k Q C (readable p (take n J)) → U ≡ refilled p k R (tables s e m u used) J n
+  pub code_made : false ≡ makes_none R k x → (C U : Tables) (Q : List ℕ) → C ≡ cleared (tables_of l 0) → Q ≡ no_rows
+      → U ≡ took_links k Q C (readable p (take n J)) → U ≡ refilled p k R (tables_of l used) J n
   unfolding cleared
   code_made t C U Q c q f =
       f ∙ ap₂ (λ (X : List ℕ) (Y : Tables). took_links k X Y (readable p (take n J))) q c
-      ∙ sym (refill_made p k R (tables s e m u used) J n (ap (makes_none R k) (sym at) ∙ sym t))
+      ∙ sym (refill_made p k R (tables_of l used) J n (ap (makes_none R k) (sym at) ∙ sym t))

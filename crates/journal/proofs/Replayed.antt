@@ -7,8 +7,8 @@ use Prim.Native.Nat.{ℕ, ◌+◌, ◌≤◌, ◌<◌}
 use native.Mathlib.Omega.{arith}
 use native.Mathlib.Numerals.{add-one}
 use lib.Dec.{ltb}
-use lib.ListN.{length, get_or, take, drop, drop_of_length-le}
-use lib.Seq.{drop-cons, get_or-take, length-take-le}
+use lib.ListN.{length, get_or, drop, drop_of_length-le}
+use lib.Seq.{drop-cons}
 use borrow.Author.Tests.{lt-ltb, ltb-true}
 use Rattle.sets.specs.Lists.{keep}
 use Rattle.sets.proofs.ListLaws.{keep_yes, keep_no}
@@ -48,27 +48,30 @@ pub read_none : (p : ℕ) → readable p [] ≡ []
 unfolding readable keep
 read_none p = refl
 
-module _ (p e k : ℕ) (R : List ℕ) (T : Tables) where
-  pub skip_rows : good_parts p (entry_link e) ≡ false → R ≡ rows_with R (readable p (e ∷ []))
+-- of the link l, as the code has it
+module _ (p e : ℕ) (l : Link) (is : l ≡ entry_link e) where
+  is_read : good_parts p l ≡ true → readable p (e ∷ []) ≡ l ∷ []
+  is_read t = read_yes p e [] (ap (good_parts p) (sym is) ∙ t) ∙ ap₂ (λ (m : Link) (M : List Link). m ∷ M) (sym is) (read_none p)
+
+  not_read : good_parts p l ≡ false → readable p (e ∷ []) ≡ []
+  not_read t = read_no p e [] (ap (good_parts p) (sym is) ∙ t) ∙ read_none p
+
+  pub skip_rows : (R : List ℕ) → good_parts p l ≡ false → R ≡ rows_with R (readable p (e ∷ []))
   unfolding rows_with
-  skip_rows t = sym (ap (rows_with R) (read_no p e [] t ∙ read_none p))
+  skip_rows R t = sym (ap (rows_with R) (not_read t))
 
-  pub skip_tables : good_parts p (entry_link e) ≡ false → T ≡ took_links k R T (readable p (e ∷ []))
-  unfolding took_links
-  skip_tables t = sym (ap (took_links k R T) (read_no p e [] t ∙ read_none p))
+  pub one_rows : (R Q : List ℕ) → good_parts p l ≡ true → Q ≡ marked R l.low l.high → Q ≡ rows_with R (readable p (e ∷ []))
+  unfolding rows_with
+  one_rows R Q t m = m ∙ sym (ap (rows_with R) (is_read t))
 
-  module _ (t : good_parts p (entry_link e) ≡ true) (low high : ℕ) (el : low ≡ (entry_link e).low) (eh : high ≡ (entry_link e).high) where
-    pub one_rows : (Q : List ℕ) → Q ≡ marked R low high → Q ≡ rows_with R (readable p (e ∷ []))
-    unfolding rows_with
-    one_rows Q m =
-        m ∙ ap₂ (λ (a b : ℕ). marked R a b) el eh
-        ∙ sym (ap (rows_with R) (read_yes p e [] t ∙ ap (λ (M : List Link). entry_link e ∷ M) (read_none p)))
-
-    pub one_tables : (U : Tables) → U ≡ took_all T (new_cliques R k low high) → U ≡ took_links k R T (readable p (e ∷ []))
+  module _ (k : ℕ) (R : List ℕ) (T : Tables) where
+    pub skip_tables : good_parts p l ≡ false → T ≡ took_links k R T (readable p (e ∷ []))
     unfolding took_links
-    one_tables U m =
-        m ∙ ap₂ (λ (a b : ℕ). took_all T (new_cliques R k a b)) el eh
-        ∙ sym (ap (took_links k R T) (read_yes p e [] t ∙ ap (λ (M : List Link). entry_link e ∷ M) (read_none p)))
+    skip_tables t = sym (ap (took_links k R T) (not_read t))
+
+    pub one_tables : (U : Tables) → good_parts p l ≡ true → U ≡ took_all T (new_cliques R k l.low l.high) → U ≡ took_links k R T (readable p (e ∷ []))
+    unfolding took_links
+    one_tables U t m = m ∙ sym (ap (took_links k R T) (is_read t))
 
 -- ---- an entry and the others behind it
 
@@ -99,36 +102,34 @@ module _ (p e : ℕ) (J : List ℕ) where
           ap (took_links k R T) (read_no p e J t)
           ∙ sym (ap (λ (M : List Link). took_links k (rows_with R M) (took_links k R T M) (readable p J)) (read_no p e [] t ∙ read_none p))
 
--- ---- the entries from j on and below n
+-- ---- the entries from j on
 
-module _ (J : List ℕ) (n : ℕ) (within : n ≤ length J) where
-  next_entry : (j : ℕ) → j < n → drop j (take n J) ≡ get_or J j 0 ∷ drop (j + 1) (take n J)
-  next_entry j h =
-      drop-cons (take n J) j 0 (omega (arith, length-take-le n J within, h))
-      ∙ ap₂ (λ (e i : ℕ). e ∷ drop i (take n J)) (get_or-take n J j 0 h) (sym (add-one j))
+module _ (L : List ℕ) where
+  next_entry : (j : ℕ) → j < length L → drop j L ≡ get_or L j 0 ∷ drop (j + 1) L
+  next_entry j h = drop-cons L j 0 h ∙ ap (λ (i : ℕ). get_or L j 0 ∷ drop i L) (sym (add-one j))
 
-  no_entry : (j : ℕ) → j ≡ n → drop j (take n J) ≡ []
-  no_entry j e = drop_of_length-le (take n J) {i = j} (omega (arith, length-take-le n J within, e))
+  no_entry : (j : ℕ) → length L ≤ j → drop j L ≡ []
+  no_entry j h = drop_of_length-le L {i = j} h
 
   module _ (p : ℕ) where
-    pub rows_next : (R Q : List ℕ) (j : ℕ) → j < n → Q ≡ rows_with R (readable p (get_or J j 0 ∷ []))
-        → rows_with Q (readable p (drop (j + 1) (take n J))) ≡ rows_with R (readable p (drop j (take n J)))
+    pub rows_next : (R Q : List ℕ) (j : ℕ) → j < length L → Q ≡ rows_with R (readable p (get_or L j 0 ∷ []))
+        → rows_with Q (readable p (drop (j + 1) L)) ≡ rows_with R (readable p (drop j L))
     rows_next R Q j h g =
-        ap (λ (X : List ℕ). rows_with X (readable p (drop (j + 1) (take n J)))) g
-        ∙ sym (rows_apart p (get_or J j 0) (drop (j + 1) (take n J)) R) ∙ ap (λ (X : List ℕ). rows_with R (readable p X)) (sym (next_entry j h))
+        ap (λ (X : List ℕ). rows_with X (readable p (drop (j + 1) L))) g
+        ∙ sym (rows_apart p (get_or L j 0) (drop (j + 1) L) R) ∙ ap (λ (X : List ℕ). rows_with R (readable p X)) (sym (next_entry j h))
 
-    pub rows_end : (R : List ℕ) (j : ℕ) → j ≡ n → R ≡ rows_with R (readable p (drop j (take n J)))
+    pub rows_end : (R : List ℕ) (j : ℕ) → length L ≤ j → R ≡ rows_with R (readable p (drop j L))
     unfolding rows_with
-    rows_end R j e = sym (ap (λ (X : List ℕ). rows_with R (readable p X)) (no_entry j e) ∙ ap (rows_with R) (read_none p))
+    rows_end R j h = sym (ap (λ (X : List ℕ). rows_with R (readable p X)) (no_entry j h) ∙ ap (rows_with R) (read_none p))
 
-    pub tables_next : (k : ℕ) (R Q : List ℕ) (T U : Tables) (j : ℕ) → j < n → Q ≡ rows_with R (readable p (get_or J j 0 ∷ []))
-        → U ≡ took_links k R T (readable p (get_or J j 0 ∷ []))
-        → took_links k Q U (readable p (drop (j + 1) (take n J))) ≡ took_links k R T (readable p (drop j (take n J)))
+    pub tables_next : (k : ℕ) (R Q : List ℕ) (T U : Tables) (j : ℕ) → j < length L → Q ≡ rows_with R (readable p (get_or L j 0 ∷ []))
+        → U ≡ took_links k R T (readable p (get_or L j 0 ∷ []))
+        → took_links k Q U (readable p (drop (j + 1) L)) ≡ took_links k R T (readable p (drop j L))
     tables_next k R Q T U j h g f =
-        ap₂ (λ (X : List ℕ) (Y : Tables). took_links k X Y (readable p (drop (j + 1) (take n J)))) g f
-        ∙ sym (tables_apart p (get_or J j 0) (drop (j + 1) (take n J)) k R T)
+        ap₂ (λ (X : List ℕ) (Y : Tables). took_links k X Y (readable p (drop (j + 1) L))) g f
+        ∙ sym (tables_apart p (get_or L j 0) (drop (j + 1) L) k R T)
         ∙ ap (λ (X : List ℕ). took_links k R T (readable p X)) (sym (next_entry j h))
 
-    pub tables_end : (k : ℕ) (R : List ℕ) (T : Tables) (j : ℕ) → j ≡ n → T ≡ took_links k R T (readable p (drop j (take n J)))
+    pub tables_end : (k : ℕ) (R : List ℕ) (T : Tables) (j : ℕ) → length L ≤ j → T ≡ took_links k R T (readable p (drop j L))
     unfolding took_links
-    tables_end k R T j e = sym (ap (λ (X : List ℕ). took_links k R T (readable p X)) (no_entry j e) ∙ ap (took_links k R T) (read_none p))
+    tables_end k R T j h = sym (ap (λ (X : List ℕ). took_links k R T (readable p X)) (no_entry j h) ∙ ap (took_links k R T) (read_none p))

@@ -1,2 +1,3 @@
 pub mod Journal
+pub mod Link
 pub mod Model

@@ -1,19 +1,21 @@
 -- What the loops over slots keep: how many ends were met, and their listing at the start of the output. Assumes nothing.
 use mathlib.Core.Path.{◌≡◌, refl, sym, ap, ap₂, ◌∙◌, subst}
 use mathlib.Core.Logic.{◌⊎◌, inl, inr}
-use mathlib.Core.Bool.{true, false}
+use mathlib.Core.Bool.{Bool, true, false}
 use mathlib.Core.List.Memᴰ
 use mathlib.Core.List.{List, [], ◌∷◌, ◌++◌}
 use Prim.Native.Nat.{ℕ, ◌+◌, ◌*◌, ◌/◌, ◌≤◌, ◌<◌, ◌^◌}
 use native.Mathlib.Numerals.{add-one}
 use native.Mathlib.Omega.{arith}
-use lib.Dec.{eqb}
+use lib.Dec.{eqb, leb}
+use borrow.Author.Tests.{leb-true, le-leb}
 use lib.ListN.{length, take, drop, length-append, length-drop}
 use lib.Seq.{length-take-le, drop-drop}
-use Rattle.answers.specs.Verdict.{accepted, refused, written}
-use Rattle.answers.proofs.Laws.{written_accepted}
+use Rattle.answers.specs.Verdict.{accepted, unless, written}
+use Rattle.answers.proofs.Laws.{unless_passed, written_accepted}
 use Rattle.sets.specs.Lists.{◌∈◌, insert_by}
 use Rattle.sets.specs.Value.{width, row}
+use Rattle.sets.proofs.Tests.{iff}
 use Rattle.sets.proofs.ListLaws.{keep_below_le}
 use Rattle.sets.proofs.Insertion.{insert_of}
 use Rattle.percolation.specs.Percolate.{Community, shown, listing_bytes}
@@ -21,7 +23,6 @@ use Rattle.slots.specs.Tables.{root_of}
 use Rattle.records.proofs.InBytes.{parted}
 use Rattle.listings.specs.Listing.{check_out}
 use Rattle.listings.specs.Model.{by_small, root_slots, stands_at, listed}
-use Rattle.listings.proofs.Outputs.{out_short, out_fits}
 use Rattle.listings.proofs.Places.{stride, listing_length}
 use Rattle.listings.proofs.Listed.{roots_yes, roots_no, listed_length, listed_none, listed_yes, listed_no}
 
@@ -142,11 +143,15 @@ module _ (C : List Community) (n b len : ℕ) (count : n ≡ length C) (size : b
   fitting : len / b ≡ len / stride
   fitting = ap (λ (j : ℕ). len / j) size
 
-  pub room_short : len / b < n → check_out (listing_bytes C) len ≡ refused 16 0
-  room_short h = out_short (listing_bytes C) len (omega (arith, whole, fitting))
+  pub room_test : unless (leb n (len / b)) 16 0 ≡ check_out (listing_bytes C) len
+  unfolding check_out
+  room_test = ap (λ (t : Bool). unless t 16 0) (iff (leb n (len / b)) (leb (length (listing_bytes C)) len) to fro)
+    where
+      to : leb n (len / b) ≡ true → leb (length (listing_bytes C)) len ≡ true
+      to e = le-leb (length (listing_bytes C)) len (omega (arith, whole, fitting, leb-true n (len / b) e))
 
-  pub room_enough : n ≤ len / b → length (listing_bytes C) ≤ len
-  room_enough h = omega (arith, whole, fitting)
+      fro : leb (length (listing_bytes C)) len ≡ true → leb n (len / b) ≡ true
+      fro e = le-leb n (len / b) (omega (arith, whole, fitting, leb-true (length (listing_bytes C)) len e))
 
-  pub room_passed : n ≤ len / b → check_out (listing_bytes C) len ≡ accepted
-  room_passed h = out_fits (listing_bytes C) len (room_enough h)
+  pub room_enough : unless (leb n (len / b)) 16 0 ≡ accepted → length (listing_bytes C) ≤ len
+  room_enough e = omega (arith, whole, fitting, leb-true n (len / b) (unless_passed (leb n (len / b)) 16 0 e))

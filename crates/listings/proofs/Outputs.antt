@@ -6,8 +6,7 @@ use lib.Dec.{leb}
 use lib.ListN.{length}
 use borrow.Author.Tests.{le-leb, lt-leb}
 use Rattle.answers.specs.Verdict.{Verdict, accepted, refused, written}
-use Rattle.answers.specs.Answers.{counts, refuses, says}
-use Rattle.answers.specs.declared.Answer.{Answer}
+use Rattle.answers.specs.Answers.{Answer, counts, refuses, says}
 use Rattle.answers.proofs.Laws.{last_stop, last_go, say_accepted, say_refused, said_count, written_refused, written_accepted}
 use Rattle.percolation.specs.Percolate.{Community, listing_bytes}
 use Rattle.listings.specs.Listing.{check_out, Writes, Gives}

@@ -1,8 +1,7 @@
 -- The room that an output needs, and what a call that writes one leaves. Assumes nothing.
 use Rattle.std.specs.Prelude.{◌≡◌, List, ◌++◌, ℕ, leb, length, drop}
 use Rattle.answers.specs.Verdict.{Verdict, unless, written}
-use Rattle.answers.specs.Answers.{says, say_of}
-use Rattle.answers.specs.declared.Answer.{Answer}
+use Rattle.answers.specs.Answers.{Answer, says, say_of}
 use Rattle.percolation.specs.Percolate.{Community, listing_bytes}
 
 -- 16: an output of n bytes is shorter than the bytes that are to be written

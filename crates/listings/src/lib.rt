@@ -9,8 +9,9 @@ ghost use Rattle.percolation.specs.Percolate.{Community, shown, listing_bytes};
 ghost use Rattle.listings.specs.Listing.{WritesListing};
 ghost use Rattle.listings.specs.Model.{by_small, root_slots, listed};
 
-use answers::Answer;
+use answers::{Answer, Fault};
 use sets::Set;
+use slots::View;
 
 // How many bytes a community has: its smallest clique, then its union.
 fn community_length() -> usize
@@ -19,10 +20,13 @@ fn community_length() -> usize
     sets::byte_count() + sets::byte_count()
 }
 
-// Puts a community among the n of a listing, where its smallest clique belongs; those behind it move up. For sister crates: that there is room is what 16 shows.
+// Puts a community among the n of a listing, where its smallest clique belongs; those behind it move up. For sister crates: that there is room is what
+// 16 shows.
 pub fn put(out: &mut [u8], n: usize, small: Set, whole: Set)
     requires { n * (set_length + set_length) + (set_length + set_length) ≤ length out.old }
-    ensures { (C : List Community) (x rest : List ℕ) → out.old ≡ listing_bytes C ++ x ++ rest → length C ≡ n → length x ≡ set_length + set_length → ((c : Community) → c ∈ C → c.small < 2 ^ width) → out.new ≡ listing_bytes (insert_by by_small (shown (num small) (num whole)) C) ++ rest }
+    ensures { (C : List Community) (x rest : List ℕ) → out.old ≡ listing_bytes C ++ x ++ rest → length C ≡ n → length x ≡ set_length + set_length
+        → ((c : Community) → c ∈ C → c.small < 2 ^ width)
+        → out.new ≡ listing_bytes (insert_by by_small (shown (num small) (num whole)) C) ++ rest }
 {
     let size = community_length();
     let start = records::gap(out, 0, n, size, 0, small);
@@ -35,47 +39,39 @@ fn roots(entries: &[u32], used: usize) -> usize
     ensures { result ≡ length (root_slots entries.now used) }
 {
     let mut n = 0;
-    let mut i = 0;
-    while i < used {
+    for i in 0..used {
         if joining::is_root(entries, i) {
             n += 1;
         }
-        i += 1;
     }
     n
 }
 
 // Writes what stands at the ends of the used slots, by smallest clique.
-fn put_roots(entries: &[u32], smallest: &[u64], unions: &[u64], used: usize, out: &mut [u8])
-    requires { length (listing_bytes (listed entries.now smallest.now unions.now used)) ≤ length out.old }
-    ensures { out.new ≡ written accepted (listing_bytes (listed entries.now smallest.now unions.now used)) out.old }
+fn put_roots(tables: View, used: usize, out: &mut [u8])
+    requires { length (listing_bytes (listed tables.entries.now tables.smallest.now tables.unions.now used)) ≤ length out.old }
+    ensures { out.new ≡ written accepted (listing_bytes (listed tables.entry.entries.now tables.entry.smallest.now tables.entry.unions.now used)) out.old }
 {
     let mut n = 0;
-    let mut i = 0;
-    while i < used {
-        if joining::is_root(entries, i) {
-            put(out, n, sets::at(smallest, i), sets::at(unions, i));
+    for i in 0..used {
+        if joining::is_root(tables.entries, i) {
+            put(
+                out,
+                n,
+                sets::at(tables.smallest, i),
+                sets::at(tables.unions, i),
+            );
             n += 1;
         }
-        i += 1;
     }
 }
 
 // The listing of what stands at the ends of the used slots: 16 where the output is too short for it, else its bytes and the number of communities.
-pub fn list_roots(
-    entries: &[u32],
-    smallest: &[u64],
-    unions: &[u64],
-    used: usize,
-    out: &mut [u8],
-) -> Answer
-    ensures { WritesListing (listed entries.now smallest.now unions.now used) out.old result out.new }
+pub fn list_roots(tables: View, used: usize, out: &mut [u8]) -> Answer
+    ensures { WritesListing (listed tables.entry.entries.now tables.entry.smallest.now tables.entry.unions.now used) out.old result out.new }
 {
-    let n = roots(entries, used);
-    let size = community_length();
-    if out.len() / size < n {
-        return Answer::Refused(16, 0);
-    }
-    put_roots(entries, smallest, unions, used, out);
-    Answer::Count(n)
+    let n = roots(tables.entries, used);
+    answers::require(n <= out.len() / community_length(), Fault::Space, 0)?;
+    put_roots(tables, used, out);
+    Ok(n)
 }

@@ -10,13 +10,15 @@ mod replies;
 mod steps;
 
 pub use dialogue::run;
+use slots::Lent;
 use states::State;
 
-// What goes from line to line beside the parts, the tables and the journal: whether the steps have been started with all parts, whether the dialogue goes on,
-// and the state of the steps.
-#[derive(Clone, Copy)]
-struct Session {
-    started: bool,
-    going: bool,
+// What goes from line to line: the parts typed so far, the tables and the journal of the steps, their state, and whether they have been started with all parts.
+#[derive(Drop)]
+struct Session<'a> {
+    parts: &'a mut [u8],
+    tables: Lent<'a>,
+    journal: &'a mut [u64],
     state: State,
+    started: bool,
 }

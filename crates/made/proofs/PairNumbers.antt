@@ -11,27 +11,13 @@ use lib.Dec.{ltb}
 use lib.ListN.{length, length-append}
 use borrow.Author.Tests.{lt-ltb, le-ltb}
 use Rattle.sets.specs.Lists.{keep, from, below}
-use Rattle.sets.proofs.Tests.{split, and_intro, no_and}
+use Rattle.sets.proofs.Tests.{split, no_and}
 use Rattle.sets.proofs.ListLaws.{keep_yes, keep_no, keep_same, keep_append, keep_map, no_member, map_append, from_of, below_of, below_more, below_split}
 use Rattle.made.specs.Made.{pairs_of, pairs}
 use Rattle.made.specs.Model.{pair_at, is_pair, pairs_before, pairs_from}
 use Rattle.made.proofs.Pairs.{keep_empty, row_is, rows, rows_of, pairs_is}
 
 -- ---- the test
-
-pub pair_yes : (p l h : ℕ) → l < h → h < p → is_pair p (l, h) ≡ true
-unfolding is_pair
-pair_yes p l h a b = and_intro (ltb l h) (ltb h p) (lt-ltb l h a) (lt-ltb h p b)
-
--- the lower part is not the lower one
-pub pair_no : (p l h : ℕ) → h ≤ l → is_pair p (l, h) ≡ false
-unfolding is_pair
-pair_no p l h a = ap (λ (b : Bool). b && ltb h p) (le-ltb l h a)
-
--- it is: then the higher part decides
-pub pair_lower : (p l h : ℕ) → l < h → is_pair p (l, h) ≡ ltb h p
-unfolding is_pair
-pair_lower p l h a = ap (λ (b : Bool). b && ltb h p) (lt-ltb l h a)
 
 -- the higher part is not below p
 pub pair_past : (p l h : ℕ) → p ≤ h → is_pair p (l, h) ≡ false

@@ -12,7 +12,7 @@ use lib.Seq.{ext_get_or, get_or-take, get_or-drop}
 use borrow.Author.Tests.{eqb-true, eq-eqb, le-leb}
 use Rattle.answers.specs.Verdict.{Verdict, accepted, unless, written}
 use Rattle.answers.specs.Answers.{counts, says, say_of}
-use Rattle.answers.specs.declared.Answer.{Answer}
+use Rattle.answers.specs.Answers.{Answer}
 use Rattle.answers.proofs.Laws.{then_go}
 use Rattle.sets.specs.Lists.{◌∈◌}
 use Rattle.sets.proofs.Tests.{split, cond_go, cond_stop, and_intro, and_left, and_right, lt_or_le}
@@ -26,7 +26,9 @@ use Rattle.link_order.proofs.Sorted.{sort_legal, sort_length, sort_of}
 use Rattle.part_names.specs.Names.{visible, spaces, visible_then_spaces, is_name, eight_at, check_names}
 use Rattle.part_names.proofs.Form.{visible_range, each_name}
 use Rattle.sheet.specs.Sheet.{parts, head_length, sheet_length, list_of, links_of, check_sheet}
-use Rattle.sheet.specs.declared.Checked.{Checked}
+use Rattle.std.specs.Prelude.{Result}
+use Rattle.answers.specs.declared.Refusal.{Refusal}
+use Rattle.sheet.specs.declared.Counts.{Counts}
 use Rattle.sheet.specs.Network.{Network}
 use Rattle.sheet.specs.Answers.{holds, sheet_says}
 use Rattle.sheet.proofs.Lists.{list_of_length, list_of_at}
@@ -224,7 +226,7 @@ module _ (names : List ℕ) (K : List Link) (p : ℕ) (n : Named names p) (ok : 
 
   -- into lists with room it is read again: p parts, the names, and the links sorted
   pub made_again : (old out : List ℕ) (a : Answer) (c : ℕ) → WriteMeets (made_network names K) old a out → says a ≡ counts c
-      → (before after : Network) (r : Checked) → ReadMeets (take c out) before r after → room_for p (length K) before ≡ true
+      → (before after : Network) (r : Result Counts Refusal) → ReadMeets (take c out) before r after → room_for p (length K) before ≡ true
       → (sheet_says r ≡ holds p (length K)) × Filled (made_network names K) before after
   made_again old out a c wrote said before after r read space =
       let g = write_read (net names K) made_held old out a c wrote said before after r read

@@ -6,13 +6,13 @@
 use console::{STDIN, field, text};
 use meeting::Met;
 use runs::Method;
-use sets::Set;
+use slots::Lent;
 
 fn met(m: Met) {
     match m {
-        Met::Weight(w) => field(b"meet at ", w as usize),
-        Met::Never => text(b"never"),
-        Met::Refused(n, place) => trial::refused(n, place),
+        Ok(Some(w)) => field(b"meet at ", usize::from(w)),
+        Ok(None) => text(b"never"),
+        Err(r) => trial::refused(r),
     }
 }
 
@@ -35,54 +35,43 @@ fn asked(line: &[u8], call: u8, n: &[usize; 8]) {
 }
 
 // The meeting weight by the sequential run or by the maximal-clique run.
-fn meet(
-    call: u8,
-    sheet: &[u8],
-    k: usize,
-    a: Set,
-    b: Set,
-    sets: &mut [u64],
-    entries: &mut [u32],
-    smallest: &mut [u64],
-    unions: &mut [u64],
-) -> Met {
+fn meet(call: u8, sheet: &[u8], n: &[usize; 8], tables: &mut Lent) -> Met {
+    let a = sets::from_word(n[4] as u64);
+    let b = sets::from_word(n[5] as u64);
     if call == b's' {
-        return meeting_sequential::meet(sheet, k, a, b, sets, entries, smallest, unions);
+        meeting_sequential::meet(sheet, n[3], a, b, tables)
+    } else {
+        meeting_maximal::meet(sheet, n[3], a, b, tables)
     }
-    meeting_maximal::meet(sheet, k, a, b, sets, entries, smallest, unions)
 }
 
-// The listing at the threshold t, or the meeting weight of a and b.
-fn answer(
-    call: u8,
-    sheet: &[u8],
-    k: usize,
-    t: u16,
-    a: Set,
-    b: Set,
-    sets: &mut [u64],
-    entries: &mut [u32],
-    smallest: &mut [u64],
-    unions: &mut [u64],
-    out: &mut [u8],
-) {
+// The listing at a threshold, or the meeting weight of two sets.
+fn answer(call: u8, sheet: &[u8], n: &[usize; 8], tables: &mut Lent, out: &mut [u8]) {
     if call == b'l' {
-        let l = sheet_listing::listing(
-            Method::Maximal,
-            sheet,
-            k,
-            t,
-            sets,
-            entries,
-            smallest,
-            unions,
-            out,
-        );
-        trial::shown(l, out, sets, entries, smallest, unions);
-        return;
+        let t = trial::small(n[4]);
+        let a = sheet_listing::listing(Method::Maximal, sheet, n[3], t, tables, out);
+        trial::shown(a, out, tables.view());
+    } else {
+        met(meet(call, sheet, n, tables));
+        trial::left(tables.view());
     }
-    met(meet(call, sheet, k, a, b, sets, entries, smallest, unions));
-    trial::left(sets, entries, smallest, unions);
+}
+
+// The call in tables that hold nothing but 9.
+fn in_tables(call: u8, sheet: &[u8], n: &[usize; 8]) {
+    let end = n[1].min(1000);
+    let mut sets = [9u64; 1000];
+    let mut entries = [9u32; 1000];
+    let mut smallest = [9u64; 1000];
+    let mut unions = [9u64; 1000];
+    let mut tables = Lent {
+        sets: &mut sets[..end],
+        entries: &mut entries[..end],
+        smallest: &mut smallest[..end],
+        unions: &mut unions[..n[2].min(1000)],
+    };
+    let mut out = [b'.'; 40];
+    answer(call, sheet, n, &mut tables, &mut out[..n[5].min(40)]);
 }
 
 // A line's call on a sheet.
@@ -90,87 +79,43 @@ fn row(line: &[u8], sheet: &[u8]) {
     let n = trial::numbers(line);
     let call = trial::call(line);
     asked(line, call, &n);
-    in_tables(call, &n, sheet);
+    in_tables(call, sheet, &n);
 }
 
-// The call in tables that hold nothing but 9.
-fn in_tables(call: u8, n: &[usize; 8], sheet: &[u8]) {
-    let end = trial::most(n[1], 1000);
-    let last = trial::most(n[2], 1000);
-    let room = trial::most(n[5], 40);
-    let k = n[3];
-    let t = trial::small(n[4]);
-    let a = sets::from_word(n[4] as u64);
-    let b = sets::from_word(n[5] as u64);
-    let mut sets = [9u64; 1000];
-    let mut entries = [9u32; 1000];
-    let mut smallest = [9u64; 1000];
-    let mut unions = [9u64; 1000];
-    let mut out = [b'.'; 40];
-    answer(
-        call,
-        sheet,
-        k,
-        t,
-        a,
-        b,
-        &mut sets[0..end],
-        &mut entries[0..end],
-        &mut smallest[0..end],
-        &mut unions[0..last],
-        &mut out[0..room],
-    );
-}
-
-// A line's call on the sheet that another line spells.
-fn on(line: &[u8], sheet: &[u8]) {
-    let mut space = [0u8; 256];
-    let n = trial::spelled(sheet, &mut space);
-    row(line, &space[0..n]);
-}
-
+// The calls of a script, each on the sheet that a line before it spells.
 fn run(script: &[u8]) {
-    let mut row = trial::next_row(script, 0, 0);
-    while row.call < script.len() {
-        on(
-            trial::line(script, row.call),
-            trial::line(script, row.bytes),
-        );
-        row = trial::next_row(script, row.rest, row.bytes);
+    let mut space = [0u8; 256];
+    for call in trial::rows(script) {
+        let n = trial::spelled(call.bytes, &mut space);
+        row(call.line, &space[..n]);
     }
 }
 
 // 64 parts in 21 groups of three and one single, all linked across groups: 1,953 links of weight 4.
 fn groups() -> [u8; 8332] {
     let mut s = [65u8; 8332];
-    s[0] = 80;
-    s[1] = 76;
-    s[2] = 83;
-    s[3] = 0;
-    s[4] = 1;
-    s[5] = 64;
-    s[6] = 7;
-    s[7] = 161;
-    let mut at = 520;
-    let mut i: u16 = 0;
-    while i < 4096 {
+    s[..8].copy_from_slice(b"PLS\0\x01\x40\x07\xa1");
+    // each part's name begins with a sign of its own
+    for (name, sign) in s[8..520].chunks_exact_mut(8).zip(33..) {
+        name[0] = sign;
+    }
+    links(&mut s[520..]);
+    s
+}
+
+// The links of the groups, as many as there is room for.
+fn links(s: &mut [u8]) {
+    let (links, _) = s.as_chunks_mut::<4>();
+    let mut links = links.iter_mut();
+    for i in 0..4096u16 {
         let low = (i / 64) as u8;
         let high = (i % 64) as u8;
-        i += 1;
-        // each part's name begins with a sign of its own
-        s[8 + 8 * high as usize] = 33 + high;
         if low / 3 < high / 3 {
-            // always so: the proof counts no links
-            if at < 8329 {
-                s[at] = low;
-                s[at + 1] = high;
-                s[at + 2] = 0;
-                s[at + 3] = 4;
-                at += 4;
+            if let Some(link) = links.next() {
+                *link = [low, high, 0, 4];
             }
         }
     }
-    s
 }
 
 fn main() {

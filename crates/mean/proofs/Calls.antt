@@ -6,8 +6,11 @@ use Prim.Native.Nat.{ℕ, ◌≤◌, ◌/◌, ◌%◌}
 use native.Mathlib.Omega.{arith}
 use lib.Dec.{eqb}
 use lib.ListN.{length, take, drop}
+use Rattle.std.specs.Prelude.{Result, Ok, Err}
+use Rattle.answers.specs.declared.Refusal.{Refusal}
+use Rattle.answers.specs.Faults.{number_of}
 use Rattle.answers.specs.Verdict.{Verdict, accepted, refused, unless}
-use Rattle.answers.proofs.Laws.{then_left, then_right, then_stop, then_go, last_stop, last_go, unless_passed}
+use Rattle.answers.proofs.Laws.{then_left, then_right, then_stop, then_go, last_go, unless_passed}
 use Rattle.sets.specs.Lists.{◌∈◌, any, keep}
 use Rattle.sets.specs.Sets.{out, lowest}
 use Rattle.sets.specs.Value.{width, no_rows}
@@ -22,21 +25,20 @@ use Rattle.slots.specs.Tables.{Tables, root_of}
 use Rattle.slots.specs.Model.{find}
 use Rattle.slots_theory.proofs.Communal.{member_found}
 use Rattle.clique_taking.proofs.Inserted.{cliques_family}
-use Rattle.sheet.specs.Answers.{sheet_says, sheet_say}
+use Rattle.sheet.specs.Answers.{SheetSaid, holds, faulty, sheet_say}
 use Rattle.sheet.specs.Sheet.{parts, links_of, check_sheet}
-use Rattle.sheet.specs.declared.Checked.{Checked}
-use Rattle.sheet.specs.declared.Checked.TheVariants.{Fine, Faulty}
+use Rattle.sheet.proofs.Said.{said_faulty, said_holds}
 use Rattle.sheet.proofs.Sound.{sheet_legal}
 use Rattle.runs.specs.Lent.{check_call, cleared, left}
 use Rattle.runs.specs.Model.{rows_with, took_links}
 use Rattle.runs.specs.OnSheet.{slots_for}
-use Rattle.runs.proofs.Admitted.{told_faulty, told_fine, call_sheet, call_k}
+use Rattle.runs.proofs.Admitted.{call_sheet, call_k}
 use Rattle.runs.proofs.InSheet.{first_near, first_legal, parts_width}
-use Rattle.runs.proofs.Left.{left_passed, left_refused, cleared_kept}
+use Rattle.runs.proofs.Left.{left_passed, left_refused}
 use Rattle.runs.proofs.FromZero.{first_shown}
 use Rattle.mean.specs.declared.FamilyMean.{FamilyMean}
 use Rattle.mean.specs.declared.Tally.{Tally}
-use Rattle.mean.specs.Answers.{gives, refuses, mean_says, mean_say, mean_at, is_clique_at, check_clique, check_mean, MeanMeets}
+use Rattle.mean.specs.Answers.{gives, mean_say, mean_at, is_clique_at, check_clique, check_mean, MeanRuns, MeanMeets}
 use Rattle.mean.specs.Model.{Covered, counts, Adds}
 use Rattle.mean.proofs.Covering.{covered_is}
 
@@ -57,13 +59,9 @@ module _ (s : List ℕ) (k t c : ℕ) (T : Tables) where
   clique_early n x e = then_stop (check_call s k T) (unless (is_clique_at s k t c) 13 0) n x e
 
   module _ (e : check_call s k T ≡ accepted) where
-    pub clique_13 : is_clique_at s k t c ≡ false → check_clique s k t c T ≡ refused 13 0
+    pub clique_13 : (v : Verdict) → v ≡ unless (is_clique_at s k t c) 13 0 → check_clique s k t c T ≡ v
     unfolding check_clique
-    clique_13 f = then_go (check_call s k T) (unless (is_clique_at s k t c) 13 0) e ∙ last_stop (is_clique_at s k t c) 13 0 f
-
-    pub clique_passes : is_clique_at s k t c ≡ true → check_clique s k t c T ≡ accepted
-    unfolding check_clique
-    clique_passes f = then_go (check_call s k T) (unless (is_clique_at s k t c) 13 0) e ∙ last_go (is_clique_at s k t c) 13 0 f
+    clique_13 v f = then_go (check_call s k T) (unless (is_clique_at s k t c) 13 0) e ∙ sym f
 
   -- what they have that pass
   module _ (ok : check_clique s k t c T ≡ accepted) where
@@ -143,52 +141,58 @@ module _ (s : List ℕ) (k t c : ℕ) (T : Tables) (ok : check_clique s k t c T 
     unfolding mean_at mean_of
     mean_is = ap₂ (λ (x y : ℕ). mean x y (x / y) (x % y)) adds.sum adds.links
 
--- ---- the whole call, where x is what the checks before 15 said of the sheet s
+-- what was said of a view of the tables is said of them
+pub clique_viewed : (s : List ℕ) (k t c : ℕ) (x : SheetSaid) (T U : Tables) → T ≡ U → x ≡ sheet_say (check_clique s k t c T) s
+    → x ≡ sheet_say (check_clique s k t c U) s
+clique_viewed s k t c x T U e said = said ∙ ap (λ (X : Tables). sheet_say (check_clique s k t c X) s) e
 
-module _ (s : List ℕ) (k t c : ℕ) (T : Tables) (r : FamilyMean) (x : Checked) (said : sheet_says x ≡ sheet_say (check_clique s k t c T) s) where
-  abbrev before : Verdict
-  before = check_clique s k t c T
+-- ---- the run: 15, or the mean
+
+module _ (s : List ℕ) (k t c : ℕ) (T : Tables) (ok : check_clique s k t c T ≡ accepted) (n : ℕ) (first : take n (links_of s) ≡ heavy t (links_of s)) where
+  abbrev by_first : Bool
+  by_first = enough (length T.entries) (slots (parts s) k (cliques (take n (links_of s)) (parts s) k))
 
   abbrev fits : Bool
   fits = enough (length T.entries) (slots_for s k t)
 
+  pub run_stopped : (f : Refusal) → refused (number_of f.fault) f.place ≡ unless by_first 15 0 → MeanRuns fits (mean_at s k t c) (Err f)
+  unfolding mean_say
+  run_stopped f e = ap (λ (v : Verdict). mean_say v (mean_at s k t c)) (e ∙ ap (λ (b : Bool). unless b 15 0) (fits_first s k t c T ok n first))
+
+  pub run_ran : by_first ≡ true → (q : Tally) → Adds q (keep (in_family k (cliques (take n (links_of s)) (parts s) k) c) (take n (links_of s)))
+      → MeanRuns fits (mean_at s k t c) (Ok (record { sum = q.sum; links = q.links; quotient = q.sum / q.links; remainder = q.sum % q.links }))
+  unfolding mean_say
+  run_ran z q l =
+      ap gives (mean_is s k t c T ok n first q l)
+      ∙ ap (λ (v : Verdict). mean_say v (mean_at s k t c)) (sym (last_go fits 15 0 (sym (fits_first s k t c T ok n first) ∙ z)))
+
+-- ---- the whole call
+
+module _ (s : List ℕ) (k t c : ℕ) (T : Tables) where
+  abbrev before : Verdict
+  before = check_clique s k t c T
+
+  abbrev enough_slots : Bool
+  enough_slots = enough (length T.entries) (slots_for s k t)
+
   -- refused before 15: nothing is written
-  pub mean_stopped : (n i : ℕ) → x ≡ Faulty n i → mean_says r ≡ refuses n i → MeanMeets s k t c T r T
+  pub mean_stopped : (f : Refusal) → faulty (number_of f.fault) f.place ≡ sheet_say before s → MeanMeets s k t c T (Err f) T
   unfolding mean_say check_mean
-  mean_stopped n i f y =
-      let e = told_faulty before s x said n i f in
+  mean_stopped f said =
+      let m = number_of f.fault in
+      let e = said_faulty before s m f.place said in
       record {
-        answer = y ∙ ap (λ (v : Verdict). mean_say v (mean_at s k t c)) (sym (then_stop before (unless fits 15 0) n i e));
-        tables = sym (left_refused n i before T e);
+        answer = ap (λ (v : Verdict). mean_say v (mean_at s k t c)) (sym (then_stop before (unless enough_slots 15 0) m f.place e));
+        tables = sym (left_refused m f.place before T e);
       }
 
   -- let through, and the tables zeroed
-  module _ (p m : ℕ) (f : x ≡ Fine p m) (n : ℕ) (first : take n (links_of s) ≡ heavy t (links_of s)) (U W : Tables) (w : W ≡ cleared U)
-      (a : length U.sets ≡ length T.sets) (b : length U.entries ≡ length T.entries) (d : length U.smallest ≡ length T.smallest)
-      (g : length U.unions ≡ length T.unions) where
-    ok : check_clique s k t c T ≡ accepted
-    ok = (told_fine before s x said p m f).0
-
-    zeroed : W ≡ left (check_clique s k t c T) T
-    zeroed = w ∙ cleared_kept T U a b d g ∙ sym (left_passed before T ok)
-
-    pub mean_short : enough (length T.entries) (slots (parts s) k (cliques (take n (links_of s)) (parts s) k)) ≡ false → mean_says r ≡ refuses 15 0
-        → MeanMeets s k t c T r W
-    unfolding mean_say check_mean
-    mean_short z y = record {
-      answer = y
-          ∙ ap (λ (v : Verdict). mean_say v (mean_at s k t c))
-          (sym (then_go before (unless fits 15 0) ok ∙ last_stop fits 15 0 (sym (fits_first s k t c T ok n first) ∙ z)));
-      tables = zeroed;
-    }
-
-    pub mean_ran : enough (length T.entries) (slots (parts s) k (cliques (take n (links_of s)) (parts s) k)) ≡ true → (q : Tally)
-        → Adds q (keep (in_family k (cliques (take n (links_of s)) (parts s) k) c) (take n (links_of s)))
-        → mean_says r ≡ gives (mean q.sum q.links (q.sum / q.links) (q.sum % q.links)) → MeanMeets s k t c T r W
-    unfolding mean_say check_mean
-    mean_ran z q l y = record {
-      answer = y ∙ ap gives (mean_is s k t c T ok n first q l)
-          ∙ ap (λ (v : Verdict). mean_say v (mean_at s k t c))
-          (sym (then_go before (unless fits 15 0) ok ∙ last_go fits 15 0 (sym (fits_first s k t c T ok n first) ∙ z)));
-      tables = zeroed;
-    }
+  pub mean_ran : (p m : ℕ) → holds p m ≡ sheet_say before s → (r : Result FamilyMean Refusal) (W : Tables) → MeanRuns enough_slots (mean_at s k t c) r
+      → W ≡ cleared T → MeanMeets s k t c T r W
+  unfolding mean_say check_mean
+  mean_ran p m said r W y w =
+      let e = (said_holds before s p m said).0 in
+      record {
+        answer = y ∙ ap (λ (v : Verdict). mean_say v (mean_at s k t c)) (sym (then_go before (unless enough_slots 15 0) e));
+        tables = w ∙ sym (left_passed before T e);
+      }

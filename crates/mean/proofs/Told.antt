@@ -15,6 +15,8 @@ use Rattle.percolation.proofs.Mean.{mean_exact, mean_same, family_heavy}
 use Rattle.sheet.specs.Sheet.{parts, links_of}
 use Rattle.sheet.proofs.Sound.{sheet_legal}
 use Rattle.slots.specs.Tables.{Tables}
+use Rattle.std.specs.Prelude.{Result}
+use Rattle.answers.specs.declared.Refusal.{Refusal}
 use Rattle.mean.specs.declared.FamilyMean.{FamilyMean}
 use Rattle.mean.specs.Answers.{MeanSaid, gives, refuses, mean_says, mean_say, mean_at, check_clique, check_mean, MeanMeets}
 use Rattle.mean.proofs.Calls.{clique_sheet, clique_two, clique_member}
@@ -28,7 +30,7 @@ abbrev is_mean : MeanSaid → Bool
 is_mean (gives m) = true
 is_mean (refuses n a) = false
 
-module _ (s : List ℕ) (k t c : ℕ) (T : Tables) (r : FamilyMean) (U : Tables) (meets : MeanMeets s k t c T r U) (m : Mean) (e : mean_says r ≡ gives m) where
+module _ (s : List ℕ) (k t c : ℕ) (T : Tables) (r : Result FamilyMean Refusal) (U : Tables) (meets : MeanMeets s k t c T r U) (m : Mean) (e : mean_says r ≡ gives m) where
   -- where a mean is told every check has passed, and it is the definition's
   pub told_mean : (check_mean s k t c T ≡ accepted) × (m ≡ mean_at s k t c)
   unfolding mean_say
@@ -52,7 +54,7 @@ module _ (s : List ℕ) (k t c : ℕ) (T : Tables) (r : FamilyMean) (U : Tables)
   told_heavy = family_heavy (links_of s) (parts s) k t c (sheet_legal s (clique_sheet s k t c T passed))
 
 -- two k-cliques of one family are told the same four numbers, whatever tables each call was lent
-pub told_same : (s : List ℕ) (k t a b : ℕ) (T W : Tables) (q r : FamilyMean) (U X : Tables) → MeanMeets s k t a T q U → MeanMeets s k t b W r X
+pub told_same : (s : List ℕ) (k t a b : ℕ) (T W : Tables) (q r : Result FamilyMean Refusal) (U X : Tables) → MeanMeets s k t a T q U → MeanMeets s k t b W r X
     → joined_at (links_of s) (parts s) k t a b ≡ true → (m n : Mean) → mean_says q ≡ gives m → mean_says r ≡ gives n → m ≡ n
 unfolding mean_at
 told_same s k t a b T W q r U X f g j m n d e =

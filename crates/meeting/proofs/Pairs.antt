@@ -1,13 +1,13 @@
 -- 13 of a checked sheet: both sets are k-cliques of all its links; the checks before 15 in order. Assumes nothing.
-use mathlib.Core.Path.{◌≡◌, ap, ◌∙◌}
-use mathlib.Core.Bool.{Bool, true, false, ◌&&◌}
+use mathlib.Core.Path.{◌≡◌, sym, ap, ◌∙◌}
+use mathlib.Core.Bool.{Bool, true, ◌&&◌}
 use mathlib.Core.List.{List}
 use Prim.Native.Nat.{ℕ, ◌≤◌}
 use native.Mathlib.Omega.{arith}
 use lib.Dec.{eqb}
 use lib.ListN.{take}
-use Rattle.answers.specs.Verdict.{accepted, refused, unless}
-use Rattle.answers.proofs.Laws.{then_left, then_right, then_stop, then_go, last_stop, last_go, unless_passed}
+use Rattle.answers.specs.Verdict.{Verdict, accepted, refused, unless}
+use Rattle.answers.proofs.Laws.{then_left, then_right, then_stop, then_go, unless_passed}
 use Rattle.sets.specs.Lists.{◌∈◌, any}
 use Rattle.sets.specs.Value.{width, no_rows}
 use Rattle.sets.proofs.Tests.{and_left, and_right}
@@ -44,14 +44,10 @@ module _ (s : List ℕ) (k a b : ℕ) (T : Tables) where
   unfolding check_pair
   pair_early n x e = then_stop (check_call s k T) (unless (is_clique s k a && is_clique s k b) 13 0) n x e
 
-  module _ (e : check_call s k T ≡ accepted) where
-    pub pair_13 : is_clique s k a && is_clique s k b ≡ false → check_pair s k a b T ≡ refused 13 0
-    unfolding check_pair
-    pair_13 f = then_go (check_call s k T) (unless (is_clique s k a && is_clique s k b) 13 0) e ∙ last_stop (is_clique s k a && is_clique s k b) 13 0 f
-
-    pub pair_passes : is_clique s k a && is_clique s k b ≡ true → check_pair s k a b T ≡ accepted
-    unfolding check_pair
-    pair_passes f = then_go (check_call s k T) (unless (is_clique s k a && is_clique s k b) 13 0) e ∙ last_go (is_clique s k a && is_clique s k b) 13 0 f
+  -- 13, or let through
+  pub pair_13 : check_call s k T ≡ accepted → (v : Verdict) → v ≡ unless (is_clique s k a && is_clique s k b) 13 0 → check_pair s k a b T ≡ v
+  unfolding check_pair
+  pair_13 e v f = then_go (check_call s k T) (unless (is_clique s k a && is_clique s k b) 13 0) e ∙ sym f
 
   -- what they have that pass
   module _ (ok : check_pair s k a b T ≡ accepted) where

@@ -1,5 +1,7 @@
 -- The meeting weight of two k-cliques of a sheet: what each case of the answer says, what is checked, in order, and what the call must do. Assumes nothing.
-use Rattle.std.specs.Prelude.{◌≡◌, Bool, ◌&&◌, List, ℕ, eqb}
+use Rattle.std.specs.Prelude.{◌≡◌, Bool, ◌&&◌, List, ℕ, eqb, Option, Some, None, Result, Ok, Err}
+use Rattle.answers.specs.declared.Refusal.{Refusal}
+use Rattle.answers.specs.Faults.{number_of}
 use Rattle.answers.specs.Verdict.{Verdict, accepted, refused, ◌then◌, unless}
 use Rattle.sets.specs.Lists.{any}
 use Rattle.percolation.specs.Links.{cliques}
@@ -7,18 +9,23 @@ use Rattle.percolation.specs.Levels.{Meeting, met, never, meeting}
 use Rattle.sheet.specs.Sheet.{parts, links_of}
 use Rattle.slots.specs.Tables.{Tables}
 use Rattle.runs.specs.Lent.{check_call, left}
-use Rattle.meeting.specs.declared.Met.{Met}
-use Rattle.meeting.specs.declared.Met.TheVariants.{Weight, Never, Refused}
 
 -- a meeting weight, or a refusal
 pub data MeetSaid : Type 0 where
   tells : Meeting → MeetSaid
   refuses : ℕ → ℕ → MeetSaid
 
+-- what the code answers: a weight, or none, or a refusal
+abbrev pub Met : Type 0
+Met = Result (Option ℕ) Refusal
+
+abbrev pub meet_weight : Option ℕ → Meeting
+meet_weight (Some w) = met w
+meet_weight None = never
+
 abbrev pub meet_says : Met → MeetSaid
-meet_says (Weight w) = tells (met w)
-meet_says Never = tells never
-meet_says (Refused n a) = refuses n a
+meet_says (Ok x) = tells (meet_weight x)
+meet_says (Err r) = refuses (number_of r.fault) r.place
 
 -- what is right to say where the verdict is v and the meeting weight m
 unfoldable pub meet_say : Verdict → Meeting → MeetSaid

@@ -6,52 +6,31 @@ ghost use Rattle.answers.specs.Verdict.{accepted};
 ghost use Rattle.sets.specs.Value.{num};
 ghost use Rattle.sheet.specs.Answers.{sheet_says, sheet_say};
 ghost use Rattle.sheet.specs.Sheet.{parts, links, check_sheet};
-ghost use Rattle.runs.specs.Lent.{lent};
+ghost use Rattle.slots.specs.Lent.{tables_in};
 ghost use Rattle.meeting.specs.Answers.{is_clique, check_pair};
 
+use answers::{Fault, Refusal};
 use sets::Set;
-use sheet::Checked;
+use sheet::Counts;
+use slots::View;
 
-// A meeting weight, never, or a refusal with its number and its place.
-#[derive(Clone, Copy)]
-pub enum Met {
-    Weight(u16),
-    Never,
-    Refused(u8, usize),
-}
+// A meeting weight, none where the two never meet, or a refusal.
+pub type Met = Result<Option<u16>, Refusal>;
 
 // Whether a and b are k-cliques of the whole of a checked sheet.
-fn are_cliques(sheet: &[u8], p: usize, m: usize, k: usize, a: Set, b: Set) -> bool
-    requires { (check_sheet sheet.now ≡ accepted) × (p ≡ parts sheet.now) × (m ≡ links sheet.now) }
+fn are_cliques(sheet: &[u8], counts: Counts, k: usize, a: Set, b: Set) -> bool
+    requires { (check_sheet sheet.now ≡ accepted) × (counts.parts ≡ parts sheet.now) × (counts.links ≡ links sheet.now) }
     ensures { result ≡ is_clique sheet.now k (num a) && is_clique sheet.now k (num b) }
 {
-    let rows = runs::rows_of(sheet, m);
-    if !checks::is_clique(&rows, p, k, a) {
-        return false;
-    }
-    checks::is_clique(&rows, p, k, b)
+    let rows = runs::rows_of(sheet, counts.links);
+    checks::is_clique(&rows, counts.parts, k, a) && checks::is_clique(&rows, counts.parts, k, b)
 }
 
 // The checks before 15: the sheet's own, 10 and 11, then 13. Where they pass, the sheet's part count and link count.
-pub fn admit(
-    sheet: &[u8],
-    k: usize,
-    a: Set,
-    b: Set,
-    sets: &[u64],
-    entries: &[u32],
-    smallest: &[u64],
-    unions: &[u64],
-) -> Checked
-    ensures { sheet_says result ≡ sheet_say (check_pair sheet.now k (num a) (num b) (lent sets.now entries.now smallest.now unions.now)) sheet.now }
+pub fn admit(sheet: &[u8], k: usize, a: Set, b: Set, tables: View) -> Result<Counts, Refusal>
+    ensures { sheet_says result ≡ sheet_say (check_pair sheet.now k (num a) (num b) (tables_in tables.entry 0)) sheet.now }
 {
-    match runs::admit(sheet, k, sets, entries, smallest, unions) {
-        Checked::Faulty(n, x) => Checked::Faulty(n, x),
-        Checked::Fine(p, m) => {
-            if !are_cliques(sheet, p, m, k, a, b) {
-                return Checked::Faulty(13, 0);
-            }
-            Checked::Fine(p, m)
-        }
-    }
+    let counts = runs::admit(sheet, k, tables)?;
+    answers::require(are_cliques(sheet, counts, k, a, b), Fault::NoClique, 0)?;
+    Ok(counts)
 }

@@ -1,15 +1,13 @@
 -- Two k-cliques are joined where a maximal clique of the class of one that holds the first holds the second. Assumes nothing.
 use mathlib.Core.Path.{◌≡◌, refl, sym, ap, ◌∙◌, subst}
-use mathlib.Core.Logic.{◌⊎◌, inl, inr}
-use mathlib.Core.Bool.{Bool, true, false, cond}
+use mathlib.Core.Bool.{true, false}
 use mathlib.Core.List.{List}
-use Prim.Native.Nat.{ℕ, suc, ◌≤◌, ◌<◌}
+use Prim.Native.Nat.{ℕ, ◌≤◌, ◌<◌}
 use native.Mathlib.Omega.{arith}
-use lib.Dec.{eqb, ltb}
-use borrow.Author.Tests.{ltb-true, lt-ltb, eq-eqb, ne_eqb}
+use Rattle.std.specs.Prelude.{Option, Some, None, MatchOption, is_some}
 use Rattle.sets.specs.Sets.{size, sub}
 use Rattle.sets.specs.Value.{row}
-use Rattle.sets.proofs.Tests.{iff, never, not_so, lt_or_le, cond_go, cond_stop}
+use Rattle.sets.proofs.Tests.{never, not_so}
 use Rattle.percolation.specs.Percolate.{overlap, Chain, joined}
 use Rattle.percolation.specs.Links.{Link, cliques, maximals}
 use Rattle.percolation.proofs.Chains.{first_in, last_in, joined_chain, chain_joined}
@@ -23,41 +21,24 @@ use Rattle.meeting_maximal.specs.Model.{Stands}
 abbrev pub NoneHolds : List ℕ → ℕ → ℕ → Type 0
 NoneHolds T s j = (i : ℕ) → i < j → sub s (row T i) ≡ false
 
-pub none_first : (T : List ℕ) (s : ℕ) → NoneHolds T s 0
-none_first T s i h = absurd (omega arith)
+-- the first of the first n rows that holds s, if one does
+abbrev pub FirstHolds : List ℕ → ℕ → ℕ → Option ℕ → Type 0
+FirstHolds T n s r = MatchOption r (NoneHolds T s n) (λ j. (j < n) × NoneHolds T s j × (sub s (row T j) ≡ true))
 
-pub none_next : (T : List ℕ) (s j j' : ℕ) → j' ≡ suc j → NoneHolds T s j → sub s (row T j) ≡ false → NoneHolds T s j'
-none_next T s j j' e f h i l = go (lt_or_le i j)
-  where
-    go : (i < j) ⊎ (j ≤ i) → sub s (row T i) ≡ false
-    go (inl g) = f i g
-    go (inr g) = let d : i ≡ j = omega arith in ap (λ (x : ℕ). sub s (row T x)) d ∙ h
-
-pub none_at : (T : List ℕ) (s j j' : ℕ) → j ≡ j' → NoneHolds T s j → NoneHolds T s j'
-none_at T s j j' e f i l = f i (omega arith)
-
--- what the code's test says of row i, which is the set x
-pub holds_here : (T : List ℕ) (s i x : ℕ) {r t : Bool} → x ≡ row T i → r ≡ sub s x → r ≡ t → sub s (row T i) ≡ t
-holds_here T s i x e f g = ap (sub s) (sym e) ∙ sym f ∙ g
-
--- the weight v at which two were first joined, 0 for none: it stays, or becomes w where they are joined now
-pub met_kept : (v x : ℕ) → (v ≡ 0 → ⊥) → v ≡ cond (eqb v 0) x v
-met_kept v x h = cond_stop (eqb v 0) x v (ne_eqb v 0 h) refl
-
-module _ (v w : ℕ) (t : Bool) (e : v ≡ 0) where
-  pub met_now : t ≡ true → w ≡ cond (eqb v 0) (cond t w 0) v
-  met_now h = cond_go (eqb v 0) (cond t w 0) v (eq-eqb v 0 e) (cond_go t w 0 h refl)
-
-  pub met_not : t ≡ false → 0 ≡ cond (eqb v 0) (cond t w 0) v
-  met_not h = cond_go (eqb v 0) (cond t w 0) v (eq-eqb v 0 e) (cond_stop t w 0 h refl)
+-- as std says it of a range
+pub first_found : (T : List ℕ) (n s : ℕ) (r : Option ℕ) → MatchOption r ((i : ℕ) → 0 ≤ i → i < n → sub s (row T i) ≡ false)
+    (λ j. (0 ≤ j) × (j < n) × (sub s (row T j) ≡ true) × ((i : ℕ) → 0 ≤ i → i < j → sub s (row T i) ≡ false))
+    → FirstHolds T n s r
+first_found T n s None none = λ i l. none i (omega arith) l
+first_found T n s (Some j) f = (f.1, λ i l. f.3 i (omega arith) l, f.2)
 
 module _ (L : List Link) (p k n : ℕ) (T : List ℕ) (st : Stands (maximals L p k) n T) (one : 1 ≤ k) (a b : ℕ) (sa : size a ≡ k) (sb : size b ≡ k) where
   abbrev M : List ℕ
   M = maximals L p k
 
   -- a set that no maximal clique holds is joined to none
-  pub apart : (i : ℕ) → n ≤ i → NoneHolds T a i → false ≡ joined k (cliques L p k) a b
-  apart i le none = sym (not_so (joined k (cliques L p k) a b) never_joined)
+  pub apart : NoneHolds T a n → false ≡ joined k (cliques L p k) a b
+  apart none = sym (not_so (joined k (cliques L p k) a b) never_joined)
     where
       never_joined : joined k (cliques L p k) a b ≡ true → ⊥
       never_joined e =
@@ -89,22 +70,15 @@ module _ (L : List Link) (p k n : ℕ) (T : List ℕ) (st : Stands (maximals L p
         ((class_joined k n M U (omega (arith, st.long, moved_rows 0 n T U moved)) (moved_fits 0 n T U moved st.fits) (holding_moved 0 n M T U moved st.holds) 0
         (omega arith) (λ u v h. absurd (omega arith)) B).1 (subst (λ (g : Grown). Among 0 g.end g.table B) class m))
 
-    -- j is the first row before e that holds b, or e
-    pub class_tells : (j : ℕ) → j ≤ e → NoneHolds W b j → (j < e → sub b (row W j) ≡ true) → ltb j e ≡ joined k (cliques L p k) a b
-    class_tells j le none some = iff (ltb j e) (joined k (cliques L p k) a b) to fro
+    -- whether a row before e holds b
+    pub class_tells : (r : Option ℕ) → FirstHolds W e b r → is_some r ≡ joined k (cliques L p k) a b
+    class_tells (Some j) h =
+        sym (chain_joined k (cliques L p k) a b (overlap_chain L p k one (back (row W j) (j, omega arith, h.0, refl)) a b sa sb held h.2))
+    class_tells None none = sym (not_so (joined k (cliques L p k) a b) never_joined)
       where
-        to : ltb j e ≡ true → joined k (cliques L p k) a b ≡ true
-        to t =
-            let l = ltb-true j e t in
-            chain_joined k (cliques L p k) a b (overlap_chain L p k one (back (row W j) (j, omega arith, l, refl)) a b sa sb held (some l))
-
-        fro : joined k (cliques L p k) a b ≡ true → ltb j e ≡ true
-        fro t = go (lt_or_le j e)
-          where
-            go : (j < e) ⊎ (e ≤ j) → ltb j e ≡ true
-            go (inl l) = lt-ltb j e l
-            go (inr l) =
-                let c = joined_chain k (cliques L p k) a b t in
-                let B = lies_in L p k b (last_in c) in
-                let r = within B.0 (chain_overlap L p k c (row T i) B.0 (st.holds.row_in i inside) B.1 held B.2) in
-                never (sub b B.0) B.2 (ap (sub b) r.3 ∙ none r.0 (omega (arith, r.2)))
+        never_joined : joined k (cliques L p k) a b ≡ true → ⊥
+        never_joined t =
+            let c = joined_chain k (cliques L p k) a b t in
+            let B = lies_in L p k b (last_in c) in
+            let r = within B.0 (chain_overlap L p k c (row T i) B.0 (st.holds.row_in i inside) B.1 held B.2) in
+            never (sub b B.0) B.2 (ap (sub b) r.3 ∙ none r.0 (omega (arith, r.2)))

@@ -7,11 +7,10 @@ use mathlib.Core.List.Memᴰ
 use mathlib.Core.List.{List, ◌∷◌, ◌++◌, append_assoc}
 use Prim.Native.Nat.{ℕ, suc, ◌≤◌, ◌<◌}
 use native.Mathlib.Omega.{arith}
-use lib.Dec.{eqb}
 use lib.ListN.{length, get_or, take, drop, length-append, take-append-drop}
 use lib.Seq.{take-suc, take-length, split_at, length-take-le}
-use borrow.Author.Tests.{eq-eqb, ne_eqb}
-use Rattle.answers.specs.Verdict.{accepted, unless}
+use Rattle.std.specs.Prelude.{Option, Some, None, Ok, is_some}
+use Rattle.answers.specs.Verdict.{accepted}
 use Rattle.sets.specs.Lists.{◌∈◌, keep}
 use Rattle.sets.specs.Sets.{size}
 use Rattle.sets.proofs.Tests.{split, never, not_so, lt_or_le}
@@ -21,7 +20,7 @@ use Rattle.percolation.specs.Links.{Link, link, heavy, cliques, family, maximals
 use Rattle.percolation.specs.Levels.{Meeting, met, levels, joined_at, meeting}
 use Rattle.percolation.specs.Levels as level
 use Rattle.percolation.specs.Steps.{legal, enough}
-use Rattle.percolation.proofs.Accepted.{legal_falling, legal_positive}
+use Rattle.percolation.proofs.Accepted.{legal_falling}
 use Rattle.percolation.proofs.Levels.{levels_of, levels_at, largest_met, largest_never, heavy_of, heavy_at, heavy_all}
 use Rattle.slots.specs.Tables.{room}
 use Rattle.sheet.specs.Sheet.{parts, links, link_of, links_of, check_sheet}
@@ -30,7 +29,7 @@ use Rattle.slots.proofs.Lengths.{enough_room, enough_short}
 use Rattle.runs.proofs.InSheet.{links_length, link_at_lem}
 use Rattle.runs.proofs.Falling.{AllHeavy, heavy_append, heavy_more}
 use Rattle.runs.specs.OnSheet.{maximals_for}
-use Rattle.meeting.specs.Answers.{tells, meet_say, meeting_of}
+use Rattle.meeting.specs.Answers.{meet_weight, meeting_of, MeetingRuns}
 use Rattle.meeting.proofs.Calls.{meet_whole}
 use Rattle.meeting_maximal.specs.Fits.{levels_fit}
 use Rattle.meeting_maximal.specs.Model.{Stands, Filled}
@@ -111,25 +110,53 @@ module _ (L : List Link) (p k a b : ℕ) where
 
 -- ---- what is known before link n
 
--- v is 0 and a and b are joined at no level of the first n links, or it is their meeting weight
-abbrev FirstMet : List Link → ℕ → ℕ → ℕ → ℕ → ℕ → ℕ → Type 0
-FirstMet L p k a b n v = ((v ≡ 0) × ((l : Link) → l ∈ take n L → joined_at L p k l.weight a b ≡ false)) ⊎ ((1 ≤ v) × (meeting L p k a b ≡ met v))
+-- a and b are joined at no level of the first n links, or v is their meeting weight
+abbrev FirstMet : List Link → ℕ → ℕ → ℕ → ℕ → ℕ → Option ℕ → Type 0
+FirstMet L p k a b n None = (l : Link) → l ∈ take n L → joined_at L p k l.weight a b ≡ false
+FirstMet L p k a b n (Some v) = meeting L p k a b ≡ met v
 
 -- there is space for the maximal cliques of each level of the first n links
-pub record Counted (L : List Link) (p k a b space n v : ℕ) : Type 0 where
+pub record Counted (L : List Link) (p k a b space n : ℕ) (v : Option ℕ) : Type 0 where
   pub fit : (l : Link) → l ∈ take n L → length (maximals (heavy l.weight L) p k) ≤ space
   pub meets : FirstMet L p k a b n v
 
-pub counted_none : (L : List Link) (p k a b space n v : ℕ) → n ≡ 0 → v ≡ 0 → Counted L p k a b space n v
-counted_none L p k a b space n v e f = record { fit = λ l m. absurd (nothing l m); meets = inl (f, λ l m. absurd (nothing l m)) }
+pub counted_none : (L : List Link) (p k a b space n : ℕ) → n ≡ 0 → Counted L p k a b space n None
+counted_none L p k a b space n e = record { fit = λ l m. absurd (nothing l m); meets = λ l m. absurd (nothing l m) }
   where
     nothing : (l : Link) → l ∈ take n L → ⊥
     nothing l m = Memᴰ.not-nil (subst (λ (i : ℕ). l ∈ take i L) e m)
 
+-- the weight v so far, or w where the two are joined now
+abbrev pub first_of : Option ℕ → Bool → ℕ → Option ℕ
+first_of (Some v) t w = Some v
+first_of None t w = cond t (Some w) None
+
+module _ (v : Option ℕ) (w : ℕ) (t : Bool) where
+  pub first_new : is_some v ≡ false → t ≡ true → Some w ≡ first_of v t w
+  first_new e f = go v e
+    where
+      go : (u : Option ℕ) → is_some u ≡ false → Some w ≡ first_of u t w
+      go None i = sym (ap (λ (b : Bool). cond {A = Option ℕ} b (Some w) None) f)
+      go (Some x) i = cc
+
+  pub first_kept : is_some v ≡ true → v ≡ first_of v t w
+  first_kept e = go v e
+    where
+      go : (u : Option ℕ) → is_some u ≡ true → u ≡ first_of u t w
+      go None i = cc
+      go (Some x) i = refl
+
+  pub first_not : t ≡ false → v ≡ first_of v t w
+  first_not f = go v
+    where
+      go : (u : Option ℕ) → u ≡ first_of u t w
+      go None = sym (ap (λ (b : Bool). cond {A = Option ℕ} b (Some w) None) f)
+      go (Some x) = refl
+
 -- what the code makes of the weight v so far at a level w, where the tables have the maximal cliques of the links K
-abbrev pub MeetsNow : ℕ → ℕ → ℕ → ℕ → List ℕ → ℕ → ℕ → ℕ → Type 0
+abbrev pub MeetsNow : ℕ → ℕ → ℕ → ℕ → List ℕ → ℕ → Option ℕ → Option ℕ → Type 0
 MeetsNow k a b f T w v r = (K : List Link) (q : ℕ) → Stands (maximals K q k) f T → 1 ≤ k → size a ≡ k → size b ≡ k
-    → r ≡ cond (eqb v 0) (cond (joined k (cliques K q k) a b) w 0) v
+    → r ≡ first_of v (joined k (cliques K q k) a b) w
 
 module _ (p : ℕ) (L : List Link) (ok : legal p L ≡ true) (k space n w : ℕ) (d : Link) (h : n < length L) (e : w ≡ (get_or L n d).weight) (j : ℕ)
     (le : j ≤ length L) (first : take j L ≡ heavy w L) (f : ℕ) (T : List ℕ) (taken : Filled (maximals (take j L) p k) space f T) where
@@ -154,39 +181,27 @@ module _ (p : ℕ) (L : List Link) (ok : legal p L ≡ true) (k space n w : ℕ)
         pick (inl q) = absurd (omega (arith, taken.full q))
         pick (inr q) = q
 
-    module _ (a b : ℕ) (one : 1 ≤ k) (sa : size a ≡ k) (sb : size b ≡ k) (v r : ℕ) (now : MeetsNow k a b f T w v r) (old : Counted L p k a b space n v) where
-      said : r ≡ cond (eqb v 0) (cond (joined_at L p k w a b) w 0) v
+    module _ (a b : ℕ) (one : 1 ≤ k) (sa : size a ≡ k) (sb : size b ≡ k) (v r : Option ℕ) (now : MeetsNow k a b f T w v r)
+        (old : Counted L p k a b space n v) where
+      said : r ≡ first_of v (joined_at L p k w a b) w
       unfolding joined_at family
-      said =
-          now (take j L) p (taken.fit few).1 one sa sb
-          ∙ ap (λ (A : List Link). cond (eqb v 0) (cond (joined k (cliques A p k) a b) w 0) v) first
+      said = now (take j L) p (taken.fit few).1 one sa sb ∙ ap (λ (A : List Link). first_of v (joined k (cliques A p k) a b) w) first
 
       fit_next : (x : Link) → x ∈ take n L ⊎ (x.weight ≡ w) → length (maximals (heavy x.weight L) p k) ≤ space
       fit_next x (inl i) = old.fit x i
       fit_next x (inr q) =
           subst (λ (t : ℕ). length (maximals (heavy t L) p k) ≤ space) (sym q) (subst (λ (A : List Link). length (maximals A p k) ≤ space) first few)
 
-      meets_next : FirstMet L p k a b n v → FirstMet L p k a b j r
-      meets_next (inr m) =
-          let z : v ≡ 0 → ⊥ = λ q. omega (arith, m.0) in
-          let q : r ≡ v = said ∙ ap (λ (t : Bool). cond t (cond (joined_at L p k w a b) w 0) v) (ne_eqb v 0 z) in
-          inr (omega (arith, q, m.0), m.1 ∙ ap met (sym q))
-      meets_next (inl m) = pick (split (joined_at L p k w a b))
+      meets_next : (u : Option ℕ) → FirstMet L p k a b n u → FirstMet L p k a b j (first_of u (joined_at L p k w a b) w)
+      meets_next (Some u) m = m
+      meets_next None m = pick (split (joined_at L p k w a b))
         where
-          begun : r ≡ cond (joined_at L p k w a b) w 0
-          begun = said ∙ ap (λ (t : Bool). cond t (cond (joined_at L p k w a b) w 0) v) (eq-eqb v 0 m.0)
-
-          pick : (joined_at L p k w a b ≡ true) ⊎ (joined_at L p k w a b ≡ false) → FirstMet L p k a b j r
-          pick (inl t) =
-              let q : r ≡ w = begun ∙ ap (λ (t : Bool). cond t w 0) t in
-              inr (
-                omega (arith, q, e, legal_positive p L ok (get_or L n d) (get_d_member L n d h)),
-                meets L p k a b w level_in t top ∙ ap met (sym q),
-              )
+          pick : (joined_at L p k w a b ≡ true) ⊎ (joined_at L p k w a b ≡ false) → FirstMet L p k a b j (cond (joined_at L p k w a b) (Some w) None)
+          pick (inl t) = rw t (meets L p k a b w level_in t top)
             where
               -- a level above w is one of the first n links
               above : (x : Link) → joined_at L p k x.weight a b ≡ true → x ∈ take n L ⊎ (x.weight ≡ w) → x.weight ≤ w
-              above x u (inl i) = never (joined_at L p k x.weight a b) u (m.1 x i)
+              above x u (inl i) = never (joined_at L p k x.weight a b) u (m x i)
               above x u (inr i) = omega (arith, i)
 
               top : (x : ℕ) → x ∈ levels L → joined_at L p k x a b ≡ true → x ≤ w
@@ -198,16 +213,17 @@ module _ (p : ℕ) (L : List Link) (ok : legal p L ≡ true) (k space n w : ℕ)
                       let y = levels_of L x i in
                       let s = ap (λ (t : ℕ). joined_at L p k t a b) (sym y.2) ∙ u in
                       omega (arith, y.2, above y.0 s (old_or_level p L ok n w d h e j le first y.0 (kept_in y.0 y.1 (omega (arith, q, y.2)))))
-          pick (inr t) =
-              let q : r ≡ 0 = begun ∙ ap (λ (t : Bool). cond t w 0) t in
-              inl (q, λ x i. none x (old_or_level p L ok n w d h e j le first x i))
+          pick (inr t) = rw t (λ x i. none x (old_or_level p L ok n w d h e j le first x i))
             where
               none : (x : Link) → x ∈ take n L ⊎ (x.weight ≡ w) → joined_at L p k x.weight a b ≡ false
-              none x (inl i) = m.1 x i
+              none x (inl i) = m x i
               none x (inr i) = ap (λ (u : ℕ). joined_at L p k u a b) i ∙ t
 
       counted_next : Counted L p k a b space j r
-      counted_next = record { fit = λ x i. fit_next x (old_or_level p L ok n w d h e j le first x i); meets = meets_next old.meets }
+      counted_next = record {
+        fit = λ x i. fit_next x (old_or_level p L ok n w d h e j le first x i);
+        meets = subst (FirstMet L p k a b j) (sym said) (meets_next v old.meets);
+      }
 
 -- ---- the links of a checked sheet
 
@@ -244,14 +260,14 @@ module _ (s : List ℕ) (ok : check_sheet s ≡ accepted) (n w : ℕ) (h : n < l
         (enough_short es (maximals_for s k w)
         (omega (arith, space, too_many (parts s) (links_of s) (sheet_legal s ok) k c n w d in_list weighs j upto first f T taken g))))
 
-    pub level_next : f ≤ c → (a b : ℕ) → 1 ≤ k → size a ≡ k → size b ≡ k → (v r : ℕ) → MeetsNow k a b f T w v r
+    pub level_next : f ≤ c → (a b : ℕ) → 1 ≤ k → size a ≡ k → size b ≡ k → (v r : Option ℕ) → MeetsNow k a b f T w v r
         → Counted (links_of s) (parts s) k a b c n v → Counted (links_of s) (parts s) k a b c j r
     level_next g a b one sa sb v r now old =
         counted_next (parts s) (links_of s) (sheet_legal s ok) k c n w d in_list weighs j upto first f T taken g a b one sa sb v r now old
 
 -- all levels
-module _ (s : List ℕ) (k a b : ℕ) (es : List ℕ) (c : ℕ) (space : c ≡ room es) (n v : ℕ) (every : n ≡ links s)
-    (done : Counted (links_of s) (parts s) k a b c n v) where
+module _ (s : List ℕ) (k a b : ℕ) (es : List ℕ) (c : ℕ) (space : c ≡ room es) (n : ℕ) (every : n ≡ links s)
+    (v : Option ℕ) (done : Counted (links_of s) (parts s) k a b c n v) where
   abbrev L : List Link
   L = links_of s
 
@@ -275,21 +291,13 @@ module _ (s : List ℕ) (k a b : ℕ) (es : List ℕ) (c : ℕ) (space : c ≡ r
   unfolding levels_fit
   passes = all_at (λ t. enough (length es) (maximals_for s k t)) (levels L) fits
 
-  pub levels_never : v ≡ 0 → tells level.never ≡ meet_say (unless (levels_fit s k (length es)) 15 0) (meeting_of s k a b)
+  pub levels_told : MeetingRuns (levels_fit s k (length es)) (meeting_of s k a b) (Ok v)
   unfolding meeting_of
-  levels_never z = meet_whole (levels_fit s k (length es)) (meeting_of s k a b) (tells level.never) passes (ap tells (sym (go done.meets)))
+  levels_told = meet_whole (levels_fit s k (length es)) (meeting_of s k a b) passes v (go v done.meets)
     where
-      go : FirstMet L p k a b n v → meeting L p k a b ≡ level.never
-      go (inl m) =
-          meets_never L p k a b (λ t i.
+      go : (u : Option ℕ) → FirstMet L p k a b n u → meet_weight u ≡ meeting L p k a b
+      go (Some u) m = sym m
+      go None m =
+          sym (meets_never L p k a b (λ t i.
           let y = levels_of L t i in
-          ap (λ (u : ℕ). joined_at L p k u a b) y.2 ∙ m.1 y.0 (each y.0 y.1))
-      go (inr m) = absurd (omega (arith, m.0))
-
-  pub levels_met : (v ≡ 0 → ⊥) → tells (met v) ≡ meet_say (unless (levels_fit s k (length es)) 15 0) (meeting_of s k a b)
-  unfolding meeting_of
-  levels_met z = meet_whole (levels_fit s k (length es)) (meeting_of s k a b) (tells (met v)) passes (ap tells (sym (go done.meets)))
-    where
-      go : FirstMet L p k a b n v → meeting L p k a b ≡ met v
-      go (inl m) = absurd (z m.0)
-      go (inr m) = m.1
+          ap (λ (u : ℕ). joined_at L p k u a b) y.2 ∙ m y.0 (each y.0 y.1)))

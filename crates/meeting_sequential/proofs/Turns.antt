@@ -7,16 +7,18 @@ use mathlib.Core.List.Memᴰ
 use mathlib.Core.List.{List}
 use Prim.Native.Nat.{ℕ, suc, ◌+◌, ◌-◌, ◌≤◌, ◌<◌}
 use native.Mathlib.Omega.{arith}
+use lib.Dec.{eqb}
+use borrow.Author.Tests.{eq-eqb, eqb-true}
 use lib.ListN.{take, drop, drop_of_length-le}
 use lib.Seq.{drop-cons, take_all}
 use Rattle.answers.specs.Verdict.{accepted}
 use Rattle.sets.specs.Lists.{◌∈◌}
 use Rattle.sets.specs.Sets.{out, sub, lowest}
 use Rattle.sets.specs.Value.{width, row}
-use Rattle.sets.proofs.Tests.{not_so, lt_or_le}
+use Rattle.sets.proofs.Tests.{never, not_so, lt_or_le}
 use Rattle.percolation.specs.Percolate.{joined}
 use Rattle.percolation.specs.Links.{Link, link, inside, cliques}
-use Rattle.percolation.specs.Levels.{met, never}
+use Rattle.percolation.specs.Levels.{met, never as never_met}
 use Rattle.percolation.specs.Steps.{legal}
 use Rattle.percolation.proofs.Families.{cliques_of}
 use Rattle.checks.specs.Neighbours.{Neighbours}
@@ -34,9 +36,9 @@ use Rattle.runs.proofs.InSheet.{parts_width, links_length, link_at_lem}
 use Rattle.slots_theory.proofs.Free.{Stays}
 use Rattle.runs.proofs.FreeLinks.{links_stays}
 use Rattle.runs.proofs.Ran.{links_kept, further_near, further_shown}
-use Rattle.meeting.specs.Answers.{tells, meeting_of}
+use Rattle.meeting.specs.Answers.{meeting_of}
 use Rattle.meeting_sequential.specs.Model.{Complete, Taken}
-use Rattle.meeting.proofs.Prefixes.{link_at, held_cliques, prefix_held, prefix_all, first_met, never_met}
+use Rattle.meeting.proofs.Prefixes.{link_at, held_cliques, prefix_held, prefix_all, first_met, never_met as apart_never}
 
 -- ---- how many first links make a set complete: the links from the last on, one by one
 
@@ -64,15 +66,12 @@ module _ (s : List ℕ) (x : ℕ) where
         go (inl d) = ap (inside x) d ∙ inside_is ∙ f
         go (inr n) = rest l (subst (λ (z : ℕ). l ∈ drop z (links_of s)) (sym g) n)
 
-    pub complete_here : t ≡ true → (j : ℕ) → j ≡ suc i → Later s x j → Complete (links_of s) x j
-    complete_here f j g rest = record {
+    pub complete_here : t ≡ true → (j z : ℕ) → j ≡ suc i → z ≡ suc i → Later s x j → Complete (links_of s) x z
+    complete_here f j z g e rest = record {
       within = omega (arith, h, links_length s);
-      last = λ z d. let y : z ≡ i = omega arith in ap (λ (w : ℕ). inside x (link_at (links_of s) w)) y ∙ inside_is ∙ f;
-      later = rest;
+      last = λ w d. let y : w ≡ i = omega arith in ap (λ (v : ℕ). inside x (link_at (links_of s) v)) y ∙ inside_is ∙ f;
+      later = λ l m. rest l (subst (λ (v : ℕ). l ∈ drop v (links_of s)) (e ∙ sym g) m);
     }
-
-  pub complete_none : (j : ℕ) → j ≡ 0 → Later s x j → Complete (links_of s) x j
-  complete_none j e rest = record { within = omega arith; last = λ z d. absurd (omega arith); later = rest }
 
 -- ---- the loop: slots of both, one link more until they end at the same one
 
@@ -115,27 +114,29 @@ module _ (s : List ℕ) (ok : check_sheet s ≡ accepted) (k : ℕ) (two : 2 ≤
         slot_joined p k (F n) T t.taken.shows (λ x m. (cliques_of (take n L) p k m).sized) a b i j t.taken.first t.taken.second t.slot.0 t.other.0
         t.slot.1 t.other.1
 
-    module _ (x y : ℕ) (rx : x ≡ root_of T.entries i) (ry : y ≡ root_of T.entries j) where
-      pub turn_met : x ≡ y → (r : Link) (z : ℕ) → z ≡ n - 1 → r ≡ link_of s z → tells (met r.weight) ≡ tells (meeting_of s k a b)
+    -- whether both end at the same one, as the code says
+    module _ (q : Bool) (test : q ≡ eqb (root_of T.entries i) (root_of T.entries j)) where
+      pub turn_met : q ≡ true → (r : Link) (z : ℕ) → z ≡ n - 1 → r ≡ link_of s z → met r.weight ≡ meeting_of s k a b
       unfolding meeting_of
       turn_met e r z d f =
           let g : z < links s = omega (arith, t.taken.some, t.taken.within) in
-          ap tells
-          (ap (λ (l : Link). met l.weight) (f ∙ sym (link_at_lem s z (link 0 0 0) g) ∙ ap (link_at L) d)
-          ∙ sym (first_met L p k two legals a b n t.taken.some (omega (arith, t.taken.within, links_length s)) (decides.0 (sym rx ∙ e ∙ ry))
-          (t.taken.apart (n - 1) (omega (arith, t.taken.some)))))
+          ap (λ (l : Link). met l.weight) (f ∙ sym (link_at_lem s z (link 0 0 0) g) ∙ ap (link_at L) d)
+          ∙ sym (first_met L p k two legals a b n t.taken.some (omega (arith, t.taken.within, links_length s))
+          (decides.0 (eqb-true (root_of T.entries i) (root_of T.entries j) (sym test ∙ e)))
+          (t.taken.apart (n - 1) (omega (arith, t.taken.some))))
 
-      not_yet : (x ≡ y → ⊥) → joined k (F n) a b ≡ false
-      not_yet f = not_so (joined k (F n) a b) (λ e. f (rx ∙ decides.1 e ∙ sym ry))
+      not_yet : q ≡ false → joined k (F n) a b ≡ false
+      not_yet f =
+          not_so (joined k (F n) a b) (λ e. never (eqb (root_of T.entries i) (root_of T.entries j))
+          (eq-eqb (root_of T.entries i) (root_of T.entries j) (decides.1 e)) (sym test ∙ f))
 
-      pub turn_never : (x ≡ y → ⊥) → n ≡ links s → tells never ≡ tells (meeting_of s k a b)
+      pub turn_never : q ≡ false → n ≡ links s → never_met ≡ meeting_of s k a b
       unfolding meeting_of
       turn_never f e =
-          ap tells
-          (sym (never_met L p k two legals a b
-          (subst (λ (M : List Link). joined k (cliques M p k) a b ≡ false) (take_all n L (omega (arith, e, links_length s))) (not_yet f))))
+          sym (apart_never L p k two legals a b
+          (subst (λ (M : List Link). joined k (cliques M p k) a b ≡ false) (take_all n L (omega (arith, e, links_length s))) (not_yet f)))
 
-      module _ (f : x ≡ y → ⊥) (l : n < links s) (Q : List ℕ) (U : Tables) (rows : Q ≡ rows_with R (drop n (take (n + 1) (links_of s))))
+      module _ (f : q ≡ false) (l : n < links s) (Q : List ℕ) (U : Tables) (rows : Q ≡ rows_with R (drop n (take (n + 1) (links_of s))))
           (tabs : U ≡ took_links k R T (drop n (take (n + 1) (links_of s)))) where
         kept : Kept T U
         kept = subst⁻¹ (Kept T) tabs (links_kept k R T (drop n (take (n + 1) L)))

@@ -8,7 +8,7 @@ use lib.ListN.{length, take, drop}
 use lib.Seq.{take_at}
 use Rattle.answers.specs.Verdict.{accepted}
 use Rattle.answers.specs.Answers.{counts, refuses, says}
-use Rattle.answers.specs.declared.Answer.{Answer}
+use Rattle.answers.specs.Answers.{Answer}
 use Rattle.percolation.specs.Tree.{line_length, tree_bytes}
 use Rattle.slots.specs.Tables.{Tables}
 use Rattle.tree_lines.proofs.LinePlaces.{tree_length}

@@ -1,6 +1,6 @@
 -- The merge tree of a sheet, and what the call must do. Assumes nothing.
 use Rattle.std.specs.Prelude.{List, ℕ, length}
-use Rattle.answers.specs.declared.Answer.{Answer}
+use Rattle.answers.specs.Answers.{Answer}
 use Rattle.percolation.specs.Steps.{enough}
 use Rattle.percolation.specs.Tree.{Line, tree, tree_bytes}
 use Rattle.sheet.specs.Sheet.{parts, links_of}

@@ -1,43 +1,43 @@
 #![tactic(auto)]
 
 // The merge tree of a sheet: its lines, level by level, by the sequential run.
-ghost use Rattle.std.specs.Prelude.{◌≡◌};
-ghost use Rattle.runs.specs.Lent.{lent};
-ghost use Rattle.merge_tree.specs.OnSheet.{TreeMeets};
+ghost use Rattle.std.specs.Prelude.{◌≡◌, length};
+ghost use Rattle.answers.specs.Verdict.{accepted};
+ghost use Rattle.percolation.specs.Steps.{enough};
+ghost use Rattle.percolation.specs.Tree.{tree_bytes};
+ghost use Rattle.sheet.specs.Sheet.{parts, links};
+ghost use Rattle.slots.specs.Lent.{tables_of, SameLent};
+ghost use Rattle.runs.specs.Lent.{check_call};
+ghost use Rattle.runs.specs.OnSheet.{RunMeets, slots_of};
+ghost use Rattle.merge_tree.specs.OnSheet.{tree_of, TreeMeets};
 
-use answers::Answer;
-use sheet::Checked;
+use answers::{Answer, Fault};
+use sheet::Counts;
+use slots::Lent;
 
-// The merge tree of a sheet: its checks, 10, 11, 15, by the rows of the links alone, then 16, by a pass that only counts, then the lines. The tables are zeroed
-// whenever it came as far as 15.
-pub fn lines(
-    sheet: &[u8],
-    k: usize,
-    sets: &mut [u64],
-    entries: &mut [u32],
-    smallest: &mut [u64],
-    unions: &mut [u64],
-    out: &mut [u8],
-) -> Answer
-    ensures { TreeMeets sheet.now k (lent sets.old entries.old smallest.old unions.old) out.old result
-        (lent sets.new entries.new smallest.new unions.new) out.new }
+// The lines of an admitted sheet: 15, by the rows of the links alone, then 16, by a pass that only counts, then the lines. Leaves the tables anyhow.
+fn run(sheet: &[u8], counts: Counts, k: usize, tables: &mut Lent, out: &mut [u8]) -> Answer
+    requires { (check_call sheet.now k (tables_of tables.old 0) ≡ accepted) × (counts.parts ≡ parts sheet.now) × (counts.links ≡ links sheet.now) }
+    ensures lent { SameLent tables.old tables.new }
+    ensures run { RunMeets (enough (length tables.old.entries.now) (slots_of sheet.now k)) (length (tree_of sheet.now k))
+        (tree_bytes (tree_of sheet.now k)) out.old result out.new }
 {
-    match runs::admit(sheet, k, sets, entries, smallest, unions) {
-        Checked::Faulty(n, a) => Answer::Refused(n, a),
-        Checked::Fine(p, m) => {
-            if !runs::has_slots(sheet, m, p, k, entries) {
-                runs::clear(sets, entries, smallest, unions);
-                return Answer::Refused(15, 0);
-            }
-            let n = tree_passes::count_tree(sheet, m, k, sets, entries, smallest, unions);
-            let size = tree_lines::line_length();
-            if out.len() / size < n {
-                runs::clear(sets, entries, smallest, unions);
-                return Answer::Refused(16, 0);
-            }
-            tree_passes::write_tree(sheet, m, k, sets, entries, smallest, unions, out);
-            runs::clear(sets, entries, smallest, unions);
-            Answer::Count(n)
-        }
-    }
+    let view = tables.view();
+    let fits = runs::has_slots(sheet, counts.links, counts.parts, k, view.entries);
+    answers::require(fits, Fault::Slots, 0)?;
+    let n = tree_passes::count_tree(sheet, counts.links, k, tables);
+    answers::require(n <= out.len() / tree_lines::line_length(), Fault::Space, 0)?;
+    tree_passes::write_tree(sheet, counts.links, k, tables, out);
+    Ok(n)
+}
+
+// The merge tree of a sheet: its checks, 10, 11, 15, 16, then the lines. The tables are zeroed whenever it came as far as 15.
+pub fn lines(sheet: &[u8], k: usize, tables: &mut Lent, out: &mut [u8]) -> Answer
+    ensures lent { SameLent tables.old tables.new }
+    ensures meets { TreeMeets sheet.now k (tables_of tables.old 0) out.old result (tables_of tables.new 0) out.new }
+{
+    let counts = runs::admit(sheet, k, tables.view())?;
+    let answer = run(sheet, counts, k, tables, out);
+    runs::clear(tables);
+    answer
 }

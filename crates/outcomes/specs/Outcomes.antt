@@ -1,18 +1,18 @@
 -- The answers of the calls as the C interface hands them on: number 0 where the call is accepted. Assumes nothing.
-use Rattle.std.specs.Prelude.{◌≡◌, ℕ}
-use Rattle.answers.specs.Answers.{Said, counts, refuses, says}
-use Rattle.answers.specs.declared.Answer.{Answer}
+use Rattle.std.specs.Prelude.{◌≡◌, ℕ, Result}
+use Rattle.answers.specs.declared.Refusal.{Refusal}
+use Rattle.answers.specs.Answers.{Said, counts, refuses, says, Answer}
 use Rattle.sheet.specs.Answers.{SheetSaid, holds, faulty}
 use Rattle.percolation.specs.Levels.{met, never}
-use Rattle.meeting.specs.Answers.{MeetSaid, tells, meet_says}
+use Rattle.meeting.specs.Answers.{Met, MeetSaid, tells, meet_says}
 use Rattle.meeting.specs.Answers.{refuses as refusesMeeting}
-use Rattle.meeting.specs.declared.Met.{Met}
 use Rattle.mean.specs.Answers.{MeanSaid, gives, mean_says}
 use Rattle.mean.specs.Answers.{refuses as refusesMean}
 use Rattle.mean.specs.declared.FamilyMean.{FamilyMean}
 use Rattle.needs.specs.Needs.{NeedSaid, need_says}
 use Rattle.needs.specs.Needs.{gives as givesNeed, refuses as refusesNeed}
 use Rattle.needs.specs.declared.Needed.{Needed}
+use Rattle.states.specs.declared.State.{State}
 use Rattle.sequential.specs.declared.Stepped.{Stepped}
 use Rattle.outcomes.specs.declared.Outcome.{Outcome}
 use Rattle.outcomes.specs.declared.Mean.{Mean}
@@ -54,6 +54,9 @@ unfoldable pub need_shown : NeedSaid → Need
 need_shown (givesNeed x) = need_outcome (outcome 0 0 0 0) x.cliques x.joins x.slots
 need_shown (refusesNeed n a) = need_outcome (outcome n a 0 0) 0 0 0
 
+abbrev pub started : Outcome → State → Started
+started o s = record { outcome = o; state = s }
+
 -- o shows an answer of the call behind it, of which P holds
 pub record ShowsAs {A O : Type 0} (show : A → O) (P : A → Type 0) (o : O) : Type 0 where
   pub answer : A
@@ -66,10 +69,10 @@ Shows P o = ShowsAs (λ a. shown (says a)) P o
 abbrev pub ShowsMeeting : (Met → Type 0) → Outcome → Type 0
 ShowsMeeting P o = ShowsAs (λ m. meet_shown (meet_says m)) P o
 
-abbrev pub ShowsMean : (FamilyMean → Type 0) → Mean → Type 0
+abbrev pub ShowsMean : (Result FamilyMean Refusal → Type 0) → Mean → Type 0
 ShowsMean P o = ShowsAs (λ m. mean_shown (mean_says m)) P o
 
-abbrev pub ShowsNeed : (Needed → Type 0) → Need → Type 0
+abbrev pub ShowsNeed : (Result Needed Refusal → Type 0) → Need → Type 0
 ShowsNeed P o = ShowsAs (λ x. need_shown (need_says x)) P o
 
 -- o shows what a step gave back, of which P holds

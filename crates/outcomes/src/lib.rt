@@ -3,23 +3,24 @@
 // What a call of the C interface gives back, and the answers of the calls behind it as such outcomes.
 ghost use Rattle.std.specs.Prelude.{◌≡◌};
 ghost use Rattle.answers.specs.Answers.{says};
-ghost use Rattle.sheet.specs.Answers.{sheet_says, found_says};
+ghost use Rattle.answers.specs.Faults.{number_of};
+ghost use Rattle.sheet.specs.Answers.{sheet_says};
 ghost use Rattle.meeting.specs.Answers.{meet_says};
 ghost use Rattle.mean.specs.Answers.{mean_says};
 ghost use Rattle.needs.specs.Needs.{need_says};
-ghost use Rattle.outcomes.specs.Outcomes.{outcome, shown, sheet_shown, meet_shown, mean_outcome, mean_shown, need_outcome, need_shown};
+ghost use Rattle.outcomes.specs.Outcomes.{outcome, started, shown, sheet_shown, meet_shown, mean_outcome, mean_shown, need_outcome, need_shown};
 
-use answers::Answer;
+use answers::{Answer, Refusal};
 use mean::FamilyMean;
 use meeting::Met;
 use needs::Needed;
 use sequential::Stepped;
-use sheet::{Checked, Found};
+use sheet::Counts;
 use states::State;
 
 // What a call answers: number 0 with what it counts, or a refusal's number and place.
 #[repr(C)]
-#[derive(Clone, Copy)]
+#[derive(Clone, Copy, Debug, PartialEq, Eq)]
 pub struct Outcome {
     pub number: u8,
     pub place: usize,
@@ -29,7 +30,7 @@ pub struct Outcome {
 
 // What a mean gives back: its outcome, which counts the links, and the numbers; zeros on a refusal.
 #[repr(C)]
-#[derive(Clone, Copy)]
+#[derive(Clone, Copy, Debug, PartialEq, Eq)]
 pub struct Mean {
     pub outcome: Outcome,
     pub sum: u64,
@@ -39,7 +40,7 @@ pub struct Mean {
 
 // What the needs of a run give back: the numbers of k-cliques, joins and slots; zeros on a refusal.
 #[repr(C)]
-#[derive(Clone, Copy)]
+#[derive(Clone, Copy, Debug, PartialEq, Eq)]
 pub struct Need {
     pub outcome: Outcome,
     pub cliques: u64,
@@ -77,40 +78,49 @@ pub fn refused(number: u8, place: usize) -> Outcome
     }
 }
 
-pub fn of_answer(answer: Answer) -> Outcome
-    ensures { result ≡ shown (says answer) }
-{
-    match answer {
-        Answer::Count(n) => counted(n, 0),
-        Answer::Refused(n, a) => refused(n, a),
+impl From<Refusal> for Outcome {
+    ghost from_gives = { λ r o. o ≡ outcome (number_of r.fault) r.place 0 0 };
+
+    fn from(refusal: Refusal) -> Outcome {
+        refused(u8::from(refusal.fault), refusal.place)
     }
 }
 
-pub fn of_sheet(checked: Checked) -> Outcome
-    ensures { result ≡ sheet_shown (sheet_says checked) }
-{
-    match checked {
-        Checked::Fine(p, m) => counted(m, p),
-        Checked::Faulty(n, a) => refused(n, a),
+impl From<Answer> for Outcome {
+    ghost from_gives = { λ a o. o ≡ shown (says a) };
+
+    #[tactic(auto, unfolding(crate::specs::Outcomes::shown))]
+    fn from(answer: Answer) -> Outcome {
+        match answer {
+            Ok(n) => counted(n, 0),
+            Err(r) => Outcome::from(r),
+        }
     }
 }
 
-pub fn of_name(found: Found) -> Outcome
-    ensures { result ≡ shown (found_says found) }
-{
-    match found {
-        Found::At(a) => counted(a, 0),
-        Found::Missing(n, a) => refused(n, a),
+impl From<Result<Counts, Refusal>> for Outcome {
+    ghost from_gives = { λ a o. o ≡ sheet_shown (sheet_says a) };
+
+    #[tactic(auto, unfolding(crate::specs::Outcomes::sheet_shown))]
+    fn from(sheet: Result<Counts, Refusal>) -> Outcome {
+        match sheet {
+            Ok(c) => counted(c.links, c.parts),
+            Err(r) => Outcome::from(r),
+        }
     }
 }
 
-pub fn of_meeting(met: Met) -> Outcome
-    ensures { result ≡ meet_shown (meet_says met) }
-{
-    match met {
-        Met::Weight(w) => counted(w as usize, 0),
-        Met::Never => counted(0, 0),
-        Met::Refused(n, a) => refused(n, a),
+// A meeting weight, 0 for never.
+impl From<Met> for Outcome {
+    ghost from_gives = { λ m o. o ≡ meet_shown (meet_says m) };
+
+    #[tactic(auto, unfolding(crate::specs::Outcomes::meet_shown))]
+    fn from(met: Met) -> Outcome {
+        match met {
+            Ok(Some(w)) => counted(usize::from(w), 0),
+            Ok(None) => counted(0, 0),
+            Err(r) => Outcome::from(r),
+        }
     }
 }
 
@@ -125,17 +135,15 @@ fn mean_of(outcome: Outcome, sum: usize, quotient: usize, remainder: usize) -> M
     }
 }
 
-pub fn of_mean(family: FamilyMean) -> Mean
-    ensures { result ≡ mean_shown (mean_says family) }
-{
-    match family {
-        FamilyMean::Weights(sum, links, quotient, remainder) => mean_of(
-            counted(links, 0),
-            sum,
-            quotient,
-            remainder,
-        ),
-        FamilyMean::Refused(n, a) => mean_of(refused(n, a), 0, 0, 0),
+impl From<Result<FamilyMean, Refusal>> for Mean {
+    ghost from_gives = { λ m o. o ≡ mean_shown (mean_says m) };
+
+    #[tactic(auto, unfolding(crate::specs::Outcomes::mean_shown))]
+    fn from(family: Result<FamilyMean, Refusal>) -> Mean {
+        match family {
+            Ok(m) => mean_of(counted(m.links, 0), m.sum, m.quotient, m.remainder),
+            Err(r) => mean_of(Outcome::from(r), 0, 0, 0),
+        }
     }
 }
 
@@ -150,21 +158,25 @@ fn need_of(outcome: Outcome, cliques: usize, joins: usize, slots: usize) -> Need
     }
 }
 
-pub fn of_need(needed: Needed) -> Need
-    ensures { result ≡ need_shown (need_says needed) }
-{
-    match needed {
-        Needed::Counts(cliques, joins, slots) => need_of(counted(0, 0), cliques, joins, slots),
-        Needed::Refused(n, a) => need_of(refused(n, a), 0, 0, 0),
+impl From<Result<Needed, Refusal>> for Need {
+    ghost from_gives = { λ x o. o ≡ need_shown (need_says x) };
+
+    #[tactic(auto, unfolding(crate::specs::Outcomes::need_shown))]
+    fn from(needed: Result<Needed, Refusal>) -> Need {
+        match needed {
+            Ok(x) => need_of(counted(0, 0), x.cliques, x.joins, x.slots),
+            Err(r) => need_of(Outcome::from(r), 0, 0, 0),
+        }
     }
 }
 
-pub fn of_step(step: Stepped) -> Started
-    ensures outcome_value { result.outcome ≡ shown (says step.answer) }
-    ensures state_value { result.state ≡ step.state }
-{
-    let answer = step.answer;
-    let state = step.state;
-    let outcome = of_answer(answer);
-    Started { outcome, state }
+impl From<Stepped> for Started {
+    ghost from_gives = { λ s o. o ≡ started (shown (says s.answer)) s.state };
+
+    fn from(step: Stepped) -> Started {
+        Started {
+            outcome: Outcome::from(step.answer),
+            state: step.state,
+        }
+    }
 }

@@ -9,7 +9,7 @@ ghost use Rattle.overlaps.specs.Model.{swapped, swept, swept_from, grown, class_
 use sets::Set;
 
 // A class in the table: where it ends, its smallest clique and its union.
-#[derive(Clone, Copy)]
+#[derive(Clone, Copy, Debug)]
 pub struct Class {
     pub end: usize,
     small: Set,
@@ -34,13 +34,11 @@ fn sweep(table: &mut [u64], k: usize, s: Set, end: usize, n: usize) -> usize
     ensures lower_bound { (end ≤ result) × (result ≤ n) }
 {
     let mut e = end;
-    let mut j = end;
-    while j < n {
+    for j in end..n {
         if k <= sets::count(sets::meet(s, sets::at(table, j))) + 1 {
             swap(table, e, j);
             e += 1;
         }
-        j += 1;
     }
     e
 }
@@ -56,9 +54,10 @@ pub fn class_at(table: &mut [u64], k: usize, n: usize, i: usize) -> Class
     let first = sets::at(table, i);
     let mut small = sets::lows(first, k);
     let mut whole = first;
+    // The frontier's end moves while its rows are taken.
     while f < e {
         let s = sets::at(table, f);
-        small = sets::lesser(small, sets::lows(s, k));
+        small = small.min(sets::lows(s, k));
         whole = sets::union(whole, s);
         e = sweep(table, k, s, e, n);
         f += 1;
@@ -71,7 +70,7 @@ pub fn class_at(table: &mut [u64], k: usize, n: usize, i: usize) -> Class
 }
 
 // All classes of the first n sets: smallest clique and union of class number c stand in row c. Gives their number. Past
-// the end of a table a row is empty and nothing is written, so that nothing is required.
+// the end of a table a row is empty and nothing is written, so that nothing is required. Joining entries take no part: the other three tables come alone.
 pub fn classes(
     sets: &mut [u64],
     smallest: &mut [u64],
@@ -83,6 +82,7 @@ pub fn classes(
 {
     let mut i = 0;
     let mut c = 0;
+    // Each class moves i on to its end.
     while i < n {
         let class = class_at(sets, k, n, i);
         sets::put(smallest, c, class.small);

@@ -5,17 +5,19 @@ use Prim.Native.Nat.{ℕ, ◌+◌, ◌-◌, ◌*◌, ◌≤◌, ◌<◌}
 use native.Mathlib.Omega.{arith}
 use lib.Dec.{leb}
 use lib.ListN.{length, get_or, drop, get_or-append}
-use borrow.Author.Tests.{le-leb, lt-leb}
-use Rattle.answers.specs.declared.Answer.{Answer}
-use Rattle.answers.specs.declared.Answer.TheVariants.{Count, Refused}
+use borrow.Author.Tests.{le-leb, lt-leb, leb-true}
+use Rattle.std.specs.Prelude.{Ok, Err}
+use Rattle.answers.specs.Faults.{number_of}
+use Rattle.answers.specs.declared.Refusal.{Refusal}
 use Rattle.answers.specs.Verdict.{Verdict, accepted, refused, unless}
-use Rattle.answers.specs.Answers.{says, counts, refuses}
+use Rattle.answers.specs.Answers.{Answer, says, counts, refuses}
 use Rattle.answers.proofs.Laws.{
   then_left,
   then_stop,
   then_go,
   last_go,
   last_stop,
+  unless_passed,
   say_accepted,
   say_refused,
   said_count,
@@ -41,10 +43,10 @@ module _ (s b : List ℕ) where
   unfolding check_page
   admit_go v e f = f ∙ sym (then_go (check_sheet s) (unless (good_lines (parts s) b) 24 0) e)
 
-  pub rows_refused : (n a : ℕ) → check_page s b ≡ refused n a → RowsMeets s b (Refused n a)
-  rows_refused n a e = record { answer = sym (say_refused (check_page s b) (length (page_rows s b)) n a e) }
+  pub rows_refused : (x : Refusal) → check_page s b ≡ refused (number_of x.fault) x.place → RowsMeets s b (Err x)
+  rows_refused x e = record { answer = sym (say_refused (check_page s b) (length (page_rows s b)) _ _ e) }
 
-  pub rows_counted : (c n : ℕ) → check_page s b ≡ accepted → n ≡ line_count b → c ≡ rows_from b 0 n → RowsMeets s b (Count c)
+  pub rows_counted : (c n : ℕ) → check_page s b ≡ accepted → n ≡ line_count b → c ≡ rows_from b 0 n → RowsMeets s b (Ok c)
   rows_counted c n e f g = record {
     answer = ap counts (g ∙ ap (rows_from b 0) f ∙ sym (page_count s b e)) ∙ sym (say_accepted (check_page s b) (length (page_rows s b)) e);
   }
@@ -68,14 +70,14 @@ module _ (s b : List ℕ) where
         ∙ last_go (leb (length (page_of s b)) room) 16 0 (le-leb (length (page_of s b)) room (omega (arith, h, page_length s b ok)))
 
   module _ (old : List ℕ) where
-    meets_refused : (n a : ℕ) → check_put s b (length old) ≡ refused n a → PageMeets s b old (Refused n a) old
-    meets_refused n a v = record {
-      answer = sym (say_refused (check_put s b (length old)) (length (page_rows s b)) n a v);
-      bytes = sym (written_refused (check_put s b (length old)) (page_of s b) old n a v);
+    meets_refused : (x : Refusal) → check_put s b (length old) ≡ refused (number_of x.fault) x.place → PageMeets s b old (Err x) old
+    meets_refused x v = record {
+      answer = sym (say_refused (check_put s b (length old)) (length (page_rows s b)) _ _ v);
+      bytes = sym (written_refused (check_put s b (length old)) (page_of s b) old _ _ v);
     }
 
-    pub page_refused : (n a : ℕ) → check_page s b ≡ refused n a → PageMeets s b old (Refused n a) old
-    page_refused n a e = meets_refused n a (put_refused (length old) n a e)
+    pub page_refused : (x : Refusal) → check_page s b ≡ refused (number_of x.fault) x.place → PageMeets s b old (Err x) old
+    page_refused x e = meets_refused x (put_refused (length old) _ _ e)
 
     module _ (c n : ℕ) (ok : check_page s b ≡ accepted) (f : n ≡ line_count b) (g : c ≡ rows_from b 0 n) where
       pub count_rows : c ≡ length (page_rows s b)
@@ -84,10 +86,17 @@ module _ (s b : List ℕ) where
       pub count_bytes : 73 * c ≡ length (page_of s b)
       count_bytes = omega (arith, count_rows, page_length s b ok)
 
-      pub page_short : length old < 73 * c → PageMeets s b old (Refused 16 0) old
-      page_short h = meets_refused 16 0 (put_short (length old) ok (omega (arith, h, count_rows)))
+      pub page_short : (x : Refusal) → refused (number_of x.fault) x.place ≡ unless (leb (73 * c) (length old)) 16 0 → PageMeets s b old (Err x) old
+      unfolding check_put
+      page_short x e =
+          meets_refused x
+          (then_go (check_page s b) _ ok ∙ ap (λ (m : ℕ). unless (leb m (length old)) 16 0) (sym count_bytes) ∙ sym e)
 
-      pub page_written : (new page : List ℕ) → 73 * c ≤ length old → page ≡ page_of s b → new ≡ replaced old 0 (73 * c) page → PageMeets s b old (Count c) new
+      -- with room for the rows
+      pub room_passed : accepted ≡ unless (leb (73 * c) (length old)) 16 0 → 73 * c ≤ length old
+      room_passed e = leb-true (73 * c) (length old) (unless_passed (leb (73 * c) (length old)) 16 0 (sym e))
+
+      pub page_written : (new page : List ℕ) → 73 * c ≤ length old → page ≡ page_of s b → new ≡ replaced old 0 (73 * c) page → PageMeets s b old (Ok c) new
       page_written new page h p e =
           let v = put_fits (length old) ok (omega (arith, h, count_rows)) in
           record {

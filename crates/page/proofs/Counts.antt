@@ -1,12 +1,14 @@
 -- Lines tested one after the other, and the tests before that loop. Assumes nothing.
-use mathlib.Core.Path.{◌≡◌, sym, ap, ap₂, ◌∙◌}
+use mathlib.Core.Path.{◌≡◌, refl, sym, ap, ap₂, ◌∙◌}
 use mathlib.Core.Bool.{Bool, true, false, ◌&&◌}
 use mathlib.Core.List.{List}
-use Prim.Native.Nat.{ℕ, suc, ◌+◌, ◌-◌, ◌*◌, ◌%◌, ◌≤◌, ◌<◌, min}
+use Prim.Native.Nat.{ℕ, zero, suc, ◌+◌, ◌-◌, ◌*◌, ◌%◌, ◌≤◌, ◌<◌, min}
 use native.Mathlib.Omega.{arith}
+use native.Mathlib.Numerals.{add-one}
 use lib.Dec.{eqb, leb}
 use lib.ListN.{length}
 use borrow.Author.Tests.{le-leb, lt-leb}
+use Rattle.std.specs.List.{list_all, range_with_len}
 use Rattle.sets.specs.Lists.{all, from, below}
 use Rattle.sets.specs.Sets.{full, sub, size}
 use Rattle.sets.specs.Value.{width}
@@ -16,32 +18,16 @@ use Rattle.page.specs.Page.{rows_for, line_count, line_union, known, good_lines}
 use Rattle.page.specs.Model.{rows_from}
 use Rattle.page.proofs.Sizes.{rows_first, rows_none}
 
--- ---- all of a list of numbers, tested in order
+-- ---- all of a list of numbers
 
-module _ (f : ℕ → Bool) (n : ℕ) where
-  -- those from j on decide
-  abbrev pub Open : ℕ → Type 0
-  Open j = (j ≤ n) × (all f (from j (n - j)) ≡ all f (below n))
+all_range : (f : ℕ → Bool) (a n : ℕ) → list_all f (range_with_len a n) ≡ all f (from a n)
+unfolding all from
+all_range f a zero = refl
+all_range f a (suc n) = ap (λ (t : Bool). f a && t) (ap (λ (i : ℕ). list_all f (range_with_len i n)) (add-one a) ∙ all_range f (suc a) n)
 
-  pub open_start : Open 0
-  unfolding below
-  open_start = (omega arith, ap (λ (m : ℕ). all f (from 0 m)) (let z : n - 0 ≡ n = omega arith in z))
-
-  first : (j : ℕ) → j < n → all f (from j (n - j)) ≡ f j && all f (from (suc j) (n - (j + 1)))
-  unfolding all from
-  first j h = ap (λ (m : ℕ). all f (from j m)) (let z : n - j ≡ suc (n - (j + 1)) = omega arith in z)
-
-  pub open_stop : (j : ℕ) → j < n → Open j → f j ≡ false → false ≡ all f (below n)
-  open_stop j h I e = and_stop (f j) (all f (from (suc j) (n - (j + 1)))) e ∙ sym (first j h) ∙ I.1
-
-  pub open_go : (j : ℕ) → j < n → Open j → f j ≡ true → Open (j + 1)
-  open_go j h I e =
-      let one : j + 1 ≡ suc j = omega arith in
-      (omega arith, and_go (f j) (all f (from (suc j) (n - (j + 1)))) e (ap (λ (i : ℕ). all f (from i (n - (j + 1)))) one) ∙ sym (first j h) ∙ I.1)
-
-  pub open_end : (j : ℕ) → n ≤ j → Open j → true ≡ all f (below n)
-  unfolding all from
-  open_end j h I = sym (ap (λ (m : ℕ). all f (from j m)) (let z : n - j ≡ 0 = omega arith in z)) ∙ I.1
+pub all_below : (f : ℕ → Bool) (n : ℕ) → list_all f (range_with_len 0 n) ≡ all f (below n)
+unfolding below
+all_below f n = all_range f 0 n
 
 -- ---- one line, and all
 

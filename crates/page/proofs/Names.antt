@@ -94,9 +94,11 @@ cell_named s q Q R e = sym (ap (cell s) e)
 
 -- ---- what a cell does
 
-pub cell_empty : (s out : List ℕ) (u : ℕ) → Named s u → eqb u 0 ≡ true → out ≡ blanks 10
-    → (out ≡ cell s (parts_in s u)) × Leaves s u 1 u
-cell_empty s out u N e o = (cell_none s u out e o, record { rest = none_left s u e ∙ sym (ap (drop 1) (none_left s u e)); named = N })
+pub cell_empty : (s out : List ℕ) (u v : ℕ) → Named s u → eqb u 0 ≡ true → v ≡ u → out ≡ blanks 10 → (out ≡ cell s (parts_in s u)) × Leaves s u 1 v
+cell_empty s out u v N e f o = (
+  cell_none s u out e o,
+  record { rest = ap (parts_in s) f ∙ none_left s u e ∙ sym (ap (drop 1) (none_left s u e)); named = subst (Named s) (sym f) N },
+)
 
 pub cell_filled : (s : List ℕ) (u q r a : ℕ) (N : Named s u) (some : eqb u 0 ≡ false) (e : q ≡ cond (eqb u 0) width (lowest u))
     (out copy : List ℕ) → a ≡ name_at s q

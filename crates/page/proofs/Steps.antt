@@ -44,9 +44,6 @@ pub record NamesTo (s Q out : List ℕ) (left i : ℕ) : Type 0 where
   pub rest : parts_in s left ≡ drop i Q
   pub done : cells s 6 Q ≡ take (10 * i) out ++ cells s (6 - i) (drop i Q)
 
-pub names_start : (s out : List ℕ) (u : ℕ) → Named s u → length out ≡ 60 → NamesTo s (parts_in s u) out u 0
-names_start s out u N l = record { few = omega arith; long = l; named = N; rest = refl; done = refl }
-
 pub names_step : (s Q out names : List ℕ) (left next i : ℕ) → NamesTo s Q out left i → i < 6 → names ≡ cell s (parts_in s left)
     → Leaves s left 1 next → NamesTo s Q (replaced out (10 * i) (10 * i + 10) names) next (i + 1)
 names_step s Q out names left next i I h e N =
@@ -85,12 +82,6 @@ pub record RowsTo (s Q out : List ℕ) (n left i : ℕ) : Type 0 where
   pub named : Named s left
   pub rest : parts_in s left ≡ drop (6 * i) Q
   pub done : flatten (blank_rows s n Q) ≡ take (73 * i) out ++ flatten (blank_rows s (n - i) (drop (6 * i) Q))
-
-pub rows_start : (s out : List ℕ) (n u : ℕ) → Named s u → length out ≡ 73 * n → RowsTo s (parts_in s u) out n u 0
-rows_start s out n u N l =
-    let whole : flatten (blank_rows s n (parts_in s u)) ≡ flatten (blank_rows s (n - 0) (parts_in s u)) =
-    ap (λ (k : ℕ). flatten (blank_rows s k (parts_in s u))) (let z : n ≡ n - 0 = omega arith in z) in
-    record { few = omega arith; long = l; named = N; rest = refl; done = whole }
 
 pub rows_step : (s Q out new : List ℕ) (n left next i : ℕ) → RowsTo s Q out n left i → i < n → new ≡ page_row s (blanks 12) (parts_in s left)
     → Leaves s left 6 next → RowsTo s Q (replaced out (73 * i) (73 * i + 73) new) n next (i + 1)

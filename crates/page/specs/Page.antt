@@ -1,7 +1,7 @@
 -- The tree on a page of 72 columns: its rows, what it is refused for, and what the calls must do. Assumes nothing.
 use Rattle.std.specs.Prelude.{◌≡◌, Bool, cond, ◌&&◌, ℕ, zero, suc, ◌+◌, ◌-◌, ◌*◌, ◌/◌, ◌%◌, ◌<◌, eqb, leb, ltb, length, get_or, drop, replicate}
 use mathlib.Core.List.{List, [], ◌∷◌, ◌++◌, map, flatten}
-use Rattle.answers.specs.declared.Answer.{Answer}
+use Rattle.answers.specs.Answers.{Answer}
 use Rattle.answers.specs.Verdict.{Verdict, ◌then◌, unless, written}
 use Rattle.answers.specs.Answers.{says, say_of}
 use Rattle.sets.specs.Lists.{all, below}

@@ -6,6 +6,7 @@ ghost use mathlib.Core.List.{flatten};
 ghost use Rattle.std.proofs.lemmas.List.Edits.{sets};
 ghost use Rattle.answers.specs.Model.{verdict};
 ghost use Rattle.sets.specs.Lists.{all, below};
+ghost use Rattle.sets.specs.Rest.{left_of};
 ghost use Rattle.sets.specs.Value.{num, width};
 ghost use Rattle.percolation.specs.Tree.{line_length};
 ghost use Rattle.page.specs.Page.{
@@ -30,9 +31,8 @@ ghost use Rattle.page.specs.Page.{
 };
 ghost use Rattle.page.specs.Model.{Named, Leaves, Fits, parts_in, rows_from};
 
-use answers::{Answer, Tried};
-use sets::Set;
-use sheet::Checked;
+use answers::{Answer, Fault, Refusal};
+use sets::{Iter, Set};
 
 // ---- columns
 
@@ -41,14 +41,11 @@ fn column(n: usize, unit: usize) -> u8
     requires { 0 < unit }
     ensures { result ≡ column n unit }
 {
-    let digit = (48 + n / unit % 10) as u8;
-    if unit <= n {
-        return digit;
+    if n < unit && 1 < unit {
+        b' '
+    } else {
+        (48 + n / unit % 10) as u8
     }
-    if unit <= 1 {
-        return digit;
-    }
-    b' '
 }
 
 // n in the first six columns.
@@ -64,59 +61,41 @@ fn put_number(out: &mut [u8], n: usize)
     out[5] = column(n, 1);
 }
 
-fn blank(out: &mut [u8])
-    ensures { out.new ≡ blanks (length out.old) }
-{
-    let mut i = 0;
-    while i < out.len() {
-        out[i] = b' ';
-        i += 1;
-    }
-}
-
 // ---- names
 
-// The name of the lowest of the parts in ten columns, which are blank where there is none; gives the parts without it.
-fn put_cell(sheet: &[u8], left: Set, out: &mut [u8]) -> Set
-    requires { Named sheet.now (num left) × (length out.old ≡ 10) }
-    ensures out_after { out.new ≡ cell sheet.now (parts_in sheet.now (num left)) }
-    ensures leaves { Leaves sheet.now (num left) 1 (num result) }
+// The name of the next part in ten columns, which are blank where there is none.
+fn put_cell(sheet: &[u8], parts: &mut Iter, out: &mut [u8])
+    requires { Named sheet.now (left_of parts.old) × (length out.old ≡ 10) }
+    ensures out_after { out.new ≡ cell sheet.now (parts_in sheet.now (left_of parts.old)) }
+    ensures leaves { Leaves sheet.now (left_of parts.old) 1 (left_of parts.new) }
 {
-    blank(out);
-    if sets::is_empty(left) {
-        return left;
+    out.fill(b' ');
+    if let Some(q) = parts.next() {
+        let a = sheet::name_at(sheet, q);
+        copying::copy(&sheet[a..a + 8], &mut out[0..8]);
     }
-    let q = sets::lowest(left);
-    let a = sheet::name_at(sheet, q);
-    copying::copy(&sheet[a..a + 8], &mut out[0..8]);
-    sets::without(left, q)
 }
 
-// The names of the six lowest parts, in 60 columns; gives the other parts.
-fn put_names(sheet: &[u8], whole: Set, out: &mut [u8]) -> Set
-    requires { Named sheet.now (num whole) × (length out.old ≡ 60) }
-    ensures out_after { out.new ≡ cells sheet.now 6 (parts_in sheet.now (num whole)) }
-    ensures leaves { Leaves sheet.now (num whole) 6 (num result) }
+// The names of the next six parts, in 60 columns.
+fn put_names(sheet: &[u8], parts: &mut Iter, out: &mut [u8])
+    requires { Named sheet.now (left_of parts.old) × (length out.old ≡ 60) }
+    ensures out_after { out.new ≡ cells sheet.now 6 (parts_in sheet.now (left_of parts.old)) }
+    ensures leaves { Leaves sheet.now (left_of parts.old) 6 (left_of parts.new) }
 {
-    let mut left = whole;
-    let mut i = 0;
-    while i < 6 {
-        left = put_cell(sheet, left, &mut out[10 * i..10 * i + 10]);
-        i += 1;
+    for i in 0..6 {
+        put_cell(sheet, parts, &mut out[10 * i..10 * i + 10]);
     }
-    left
 }
 
-// A row whose first twelve columns are blank; gives the parts that it does not name.
-fn put_row(sheet: &[u8], whole: Set, out: &mut [u8]) -> Set
-    requires { Named sheet.now (num whole) × (length out.old ≡ 73) }
-    ensures out_after { out.new ≡ page_row sheet.now (blanks 12) (parts_in sheet.now (num whole)) }
-    ensures leaves { Leaves sheet.now (num whole) 6 (num result) }
+// A row whose first twelve columns are blank.
+fn put_row(sheet: &[u8], parts: &mut Iter, out: &mut [u8])
+    requires { Named sheet.now (left_of parts.old) × (length out.old ≡ 73) }
+    ensures out_after { out.new ≡ page_row sheet.now (blanks 12) (parts_in sheet.now (left_of parts.old)) }
+    ensures leaves { Leaves sheet.now (left_of parts.old) 6 (left_of parts.new) }
 {
-    blank(&mut out[0..12]);
-    let left = put_names(sheet, whole, &mut out[12..72]);
+    out[0..12].fill(b' ');
+    put_names(sheet, parts, &mut out[12..72]);
     out[72] = b'\n';
-    left
 }
 
 // n such rows.
@@ -124,11 +103,9 @@ fn put_rows(sheet: &[u8], whole: Set, n: usize, out: &mut [u8])
     requires { Named sheet.now (num whole) × (length out.old ≡ 73 * n) }
     ensures { out.new ≡ flatten (blank_rows sheet.now n (parts_in sheet.now (num whole))) }
 {
-    let mut left = whole;
-    let mut i = 0;
-    while i < n {
-        left = put_row(sheet, left, &mut out[73 * i..73 * i + 73]);
-        i += 1;
+    let mut parts = whole.parts();
+    for i in 0..n {
+        put_row(sheet, &mut parts, &mut out[73 * i..73 * i + 73]);
     }
 }
 
@@ -177,28 +154,16 @@ fn all_known(lines: &[u8], p: usize, n: usize) -> bool
     ensures { result ≡ all (known p lines.now) (below n) }
 {
     let parts = sets::upto(p);
-    let mut j = 0;
-    while j < n {
-        if !sets::subset(union_of(lines, j), parts) {
-            return false;
-        }
-        j += 1;
-    }
-    true
+    (0..n).all(|j| sets::subset(union_of(lines, j), parts))
 }
 
 fn good_lines(lines: &[u8], p: usize) -> bool
     requires { p ≤ width }
     ensures { result ≡ good_lines p lines.now }
 {
-    if !is_whole(lines) {
-        return false;
-    }
     let n = line_count(lines);
-    if 999999 < n {
-        return false;
-    }
-    all_known(lines, p, n)
+    let few = n <= 999999;
+    is_whole(lines) && (few && all_known(lines, p, n))
 }
 
 // ---- rows
@@ -208,10 +173,7 @@ fn rows_for(n: usize) -> usize
     requires { n ≤ width }
     ensures { (result ≡ rows_for n) × (result ≤ width) }
 {
-    if n == 0 {
-        return 1;
-    }
-    (n - 1) / 6 + 1
+    n.div_ceil(6).max(1)
 }
 
 // How many rows n lines take.
@@ -220,22 +182,18 @@ fn row_count(lines: &[u8], n: usize) -> usize
     ensures { (result ≡ rows_from lines.now 0 n) × (result ≤ width * n) }
 {
     let mut rows = 0;
-    let mut j = 0;
-    while j < n {
+    for j in 0..n {
         rows += rows_for(sets::count(union_of(lines, j)));
-        j += 1;
     }
     rows
 }
 
 // The sheet's own checks, then 24.
-fn admit(sheet: &[u8], lines: &[u8]) -> Tried
+fn admit(sheet: &[u8], lines: &[u8]) -> Result<(), Refusal>
     ensures { verdict result ≡ check_page sheet.now lines.now }
 {
-    match sheet::check(sheet) {
-        Checked::Faulty(n, a) => Tried::Stop(n, a),
-        Checked::Fine(p, _) => answers::unless(good_lines(lines, p), 24, 0),
-    }
+    let counts = sheet::check(sheet)?;
+    answers::require(good_lines(lines, counts.parts), Fault::TreeLines, 0)
 }
 
 // Writes the rows of all n lines.
@@ -244,15 +202,13 @@ fn put_page(sheet: &[u8], lines: &[u8], n: usize, out: &mut [u8])
     ensures { out.new ≡ page_of sheet.now lines.now }
 {
     let mut at = 0;
-    let mut j = 0;
-    while j < n {
+    for j in 0..n {
         let whole = union_of(lines, j);
         let rows = rows_for(sets::count(whole));
         let end = at + 73 * rows;
         let weight = weight_of(lines, j);
         put_line(sheet, j + 1, weight, whole, rows, &mut out[at..end]);
         at = end;
-        j += 1;
     }
 }
 
@@ -260,25 +216,19 @@ fn put_page(sheet: &[u8], lines: &[u8], n: usize, out: &mut [u8])
 pub fn rows(sheet: &[u8], lines: &[u8]) -> Answer
     ensures { RowsMeets sheet.now lines.now result }
 {
-    if let Tried::Stop(n, a) = admit(sheet, lines) {
-        return Answer::Refused(n, a);
-    }
-    Answer::Count(row_count(lines, line_count(lines)))
+    admit(sheet, lines)?;
+    Ok(row_count(lines, line_count(lines)))
 }
 
 // Writes the page of the tree lines to the start of out: the sheet's own checks, 24, then 16. The count is that of the rows.
 pub fn write(sheet: &[u8], lines: &[u8], out: &mut [u8]) -> Answer
     ensures { PageMeets sheet.now lines.now out.old result out.new }
 {
-    if let Tried::Stop(n, a) = admit(sheet, lines) {
-        return Answer::Refused(n, a);
-    }
+    admit(sheet, lines)?;
     let n = line_count(lines);
     let count = row_count(lines, n);
     let end = 73 * count;
-    if out.len() < end {
-        return Answer::Refused(16, 0);
-    }
+    answers::require(end <= out.len(), Fault::Space, 0)?;
     put_page(sheet, lines, n, &mut out[0..end]);
-    Answer::Count(count)
+    Ok(count)
 }

@@ -4,50 +4,71 @@ use mathlib.Core.Bool.{Bool, true, false, not, cond, ◌&&◌}
 use mathlib.Core.List.{[], List, ◌∷◌}
 use Prim.Native.Nat.{ℕ, zero, suc, ◌+◌, ◌-◌, ◌<◌, ◌≤◌}
 use native.Mathlib.Omega.{arith}
-use native.Mathlib.Numerals.{add-one}
-use native.Mathlib.Nat.{not-suc-le-zero}
-use lib.Dec.{eqb}
-use lib.ListN.{length, get_or, take, drop, drop_of_length-le}
-use lib.Seq.{drop-cons, drop-drop, take-take}
+use native.Mathlib.Numerals.{one-add}
+use lib.Dec.{eqb, ltb}
+use borrow.Author.Tests.{le-ltb}
+use lib.ListN.{length, take, drop, length-drop}
+use lib.Seq.{take_all, drop-drop, take-take}
 use Rattle.answers.specs.Verdict.{Verdict, accepted, refused, ◌then◌, unless, in_order}
 use Rattle.answers.proofs.Laws.{unless_passed, last_go, last_stop, then_both, then_left, then_right, then_stop, then_go}
 use Rattle.answers.proofs.Laws.{order_each, order_all, order_stop, order_same}
 use Rattle.sets.specs.Lists.{any, below, same}
-use Rattle.sets.proofs.Tests.{never, not_so}
-use Rattle.sets.proofs.ListLaws.{any_at, any_of, any_same, below_at, below_of, same_self, same_of}
+use lib.Pointwise.{pointwise}
+use mathlib.Core.Logic.{◌⊎◌, inl, inr}
+use Rattle.std.specs.List.{list_any, list_all, prefix_len, range_with_len}
+use Rattle.sets.proofs.Tests.{never, not_so, split, and_go, and_stop}
+use Rattle.sets.proofs.ListLaws.{any_at, any_of, any_same, any_list, range_below, pointwise_same, below_at, below_of, same_self, same_of}
 use Rattle.percolation.proofs.Ranges.{range_low, range_high}
+use Rattle.std.specs.Prelude.{Option, Some, None, MatchOption}
+use Rattle.part_names.specs.Model.{FirstFault}
 use Rattle.part_names.specs.Names.{visible, spaces, visible_then_spaces, is_name, eight_at, repeated, check_names, AllDiffer}
 
 pub visible_range : (b : ℕ) → visible b ≡ true → (33 ≤ b) × (b ≤ 126)
 unfolding visible
 visible_range b e = (range_low 33 126 b e, range_high 33 126 b e)
 
-pub spaces_at : (n : List ℕ) (i : ℕ) → i < length n → spaces (drop i n) ≡ (eqb (get_or n i 0) 32 && spaces (drop (i + 1) n))
+-- as iterators find it
+
+spaces_tested : (n : List ℕ) → list_all (λ b. eqb b 32) n ≡ spaces n
 unfolding spaces
-spaces_at n i h = rw (add-one, drop-cons n i 0)
+spaces_tested [] = refl
+spaces_tested (b ∷ bs) = ap (λ (t : Bool). eqb b 32 && t) (spaces_tested bs)
 
-pub spaces_end : (n : List ℕ) (i : ℕ) → length n ≤ i → spaces (drop i n) ≡ true
-unfolding spaces
-spaces_end n i h = ap spaces (drop_of_length-le n h)
-
-pub visible_at : (n : List ℕ) (i : ℕ) → i < length n
-    → visible_then_spaces (drop i n) ≡ cond (visible (get_or n i 0)) (visible_then_spaces (drop (i + 1) n)) (spaces (drop i n))
+-- behind the visible bytes only spaces stand
+rest_spaces : (n : List ℕ) → spaces (drop (prefix_len visible n) n) ≡ visible_then_spaces n
 unfolding visible_then_spaces
-visible_at n i h = rw (add-one, drop-cons n i 0)
+rest_spaces [] = refl
+rest_spaces (b ∷ bs) = go (split (visible b)) (rest_spaces bs)
+  where
+    go : (visible b ≡ true) ⊎ (visible b ≡ false) → spaces (drop (prefix_len visible bs) bs) ≡ visible_then_spaces bs
+        → spaces (drop (cond (visible b) (1 + prefix_len visible bs) 0) (b ∷ bs)) ≡ cond (visible b) (visible_then_spaces bs) (spaces (b ∷ bs))
+    go (inl e) r = rw (e, one-add) r
+    go (inr e) r = rw e
 
-pub visible_end : (n : List ℕ) (i : ℕ) → length n ≤ i → visible_then_spaces (drop i n) ≡ true
-unfolding visible_then_spaces
-visible_end n i h = ap visible_then_spaces (drop_of_length-le n h)
-
-pub name_none : (n : List ℕ) → length n ≡ 0 → is_name n ≡ false
+pub name_tested : (n : List ℕ) (at : ℕ) → at ≡ prefix_len visible n → 0 < at → list_all (λ b. eqb b 32) (take (length n - at) (drop at n)) ≡ is_name n
 unfolding is_name
-name_none [] h = refl
-name_none (b ∷ bs) h = let z : ⊥ = omega arith in absurd z
+name_tested [] at e h = absurd (omega arith)
+name_tested (b ∷ bs) at e h = go (split (visible b))
+  where
+    part : take (length (b ∷ bs) - at) (drop at (b ∷ bs)) ≡ drop at (b ∷ bs)
+    part = take_all (length (b ∷ bs) - at) (drop at (b ∷ bs)) (omega (arith, length-drop at (b ∷ bs)))
 
-pub name_first : (n : List ℕ) → 0 < length n → is_name n ≡ (visible (get_or n 0 0) && visible_then_spaces (drop 1 n))
+    go : (visible b ≡ true) ⊎ (visible b ≡ false)
+        → list_all (λ c. eqb c 32) (take (length (b ∷ bs) - at) (drop at (b ∷ bs))) ≡ (visible b && visible_then_spaces bs)
+    go (inl t) =
+        let f : prefix_len visible (b ∷ bs) ≡ suc (prefix_len visible bs) = rw t (omega arith) in
+        ap (list_all (λ c. eqb c 32)) (part ∙ ap (λ (k : ℕ). drop k (b ∷ bs)) (e ∙ f)) ∙ spaces_tested (drop (prefix_len visible bs) bs) ∙ rest_spaces bs
+        ∙ and_go (visible b) (visible_then_spaces bs) t refl
+    go (inr t) = let f : prefix_len visible (b ∷ bs) ≡ 0 = rw t refl in absurd (omega arith)
+
+pub name_lacking : (n : List ℕ) (at : ℕ) → at ≡ prefix_len visible n → at ≤ 0 → ltb 0 at ≡ is_name n
 unfolding is_name
-name_first [] h = absurd (not-suc-le-zero h)
-name_first (b ∷ bs) h = refl
+name_lacking [] at e h = le-ltb 0 at h
+name_lacking (b ∷ bs) at e h = le-ltb 0 at h ∙ go (split (visible b))
+  where
+    go : (visible b ≡ true) ⊎ (visible b ≡ false) → false ≡ (visible b && visible_then_spaces bs)
+    go (inl t) = let f : prefix_len visible (b ∷ bs) ≡ suc (prefix_len visible bs) = rw t (omega arith) in absurd (omega arith)
+    go (inr t) = and_stop (visible b) (visible_then_spaces bs) t
 
 -- ---- names that are alike
 
@@ -59,6 +80,26 @@ repeated_none f q h =
 pub repeated_at : (f : ℕ → List ℕ) (q r : ℕ) → r < q → f r ≡ f q → repeated f q ≡ true
 unfolding repeated
 repeated_at f q r h e = any_at (λ i. same (f i) (f q)) (below q) (below_at r q h) (ap (λ (x : List ℕ). same x (f q)) e ∙ same_self (f q))
+
+pub repeated_tested : (f : ℕ → List ℕ) (q : ℕ) → list_any (λ r. pointwise eqb (f r) (f q)) (range_with_len 0 q) ≡ repeated f q
+unfolding repeated
+repeated_tested f q =
+    ap (list_any (λ r. pointwise eqb (f r) (f q))) (range_below q) ∙ any_list (λ r. pointwise eqb (f r) (f q)) (below q)
+    ∙ any_same (λ r. pointwise eqb (f r) (f q)) (λ r. same (f r) (f q)) (below q) (λ r m. pointwise_same (f r) (f q))
+
+-- what a search of a range finds
+pub fault_found : (test : ℕ → Bool) (p : ℕ) (r : Option ℕ)
+    → MatchOption r ((k : ℕ) → 0 ≤ k → k < p → test k ≡ true) (λ i. (0 ≤ i) × (i < p) × (test i ≡ false) × ((k : ℕ) → 0 ≤ k → k < i → test k ≡ true))
+    → FirstFault test p r
+fault_found test p None h = λ q l. h q (omega arith) l
+fault_found test p (Some i) h = (h.1, (λ q l. h.3 q (omega arith) l), h.2)
+
+pub fault_at : (test : ℕ → Bool) (p q : ℕ) (r : Option ℕ) → FirstFault test p r → r ≡ Some q
+    → (q < p) × ((i : ℕ) → i < q → test i ≡ true) × (test q ≡ false)
+fault_at test p q r h e = rw e at h
+
+pub fault_none : (test : ℕ → Bool) (p : ℕ) (r : Option ℕ) → FirstFault test p r → r ≡ None → (i : ℕ) → i < p → test i ≡ true
+fault_none test p r h e = rw e at h
 
 -- ---- a test of each in order, and the place of the first that fails it
 

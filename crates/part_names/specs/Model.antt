@@ -1,6 +1,7 @@
 -- What the searches of names find. Assumes nothing.
-use Rattle.std.specs.Prelude.{Bool, true, false, ◌≡◌, ℕ, ◌<◌, ◌≤◌}
+use Rattle.std.specs.Prelude.{Bool, true, false, ◌≡◌, ℕ, ◌<◌, Option, MatchOption}
 
--- r is the first below p that fails the test; p where none does
-abbrev pub FirstFault : (ℕ → Bool) → ℕ → ℕ → Type 0
-FirstFault test p r = (r ≤ p) × (((q : ℕ) → q < r → test q ≡ true) × (r < p → test r ≡ false))
+-- the first below p that fails the test, if one does
+abbrev pub FirstFault : (ℕ → Bool) → ℕ → Option ℕ → Type 0
+FirstFault test p result =
+    MatchOption result ((q : ℕ) → q < p → test q ≡ true) (λ r. (r < p) × ((q : ℕ) → q < r → test q ≡ true) × (test r ≡ false))

@@ -12,21 +12,21 @@ ghost use Rattle.products.specs.Model.{pair_weight, table_weights, part_weights}
 use sets::Set;
 
 // A clique, with its product.
-#[derive(Clone, Copy)]
+#[derive(Clone, Copy, Debug)]
 pub struct Scored {
     pub set: Set,
     pub product: f64,
 }
 
 // What a clique is measured by, with the threshold.
-#[derive(Clone, Copy)]
+#[derive(Clone, Copy, Debug)]
 pub enum Measure {
     Weakest(u16),
     Product(f64),
 }
 
 // The two measures of a clique.
-#[derive(Clone, Copy)]
+#[derive(Clone, Copy, Debug)]
 struct Strength {
     weakest: u16,
     product: f64,
@@ -36,23 +36,17 @@ struct Strength {
 fn times(v: f64, w: u16) -> f64
     ensures { result ≡ times_of v w }
 {
-    v * (w as f64)
-}
-
-// The lesser of two weights.
-fn lighter(v: u16, w: u16) -> u16
-    ensures { result ≡ min v w }
-{
-    if w < v { w } else { v }
+    v * f64::from(w)
 }
 
 // The weight of two parts, the lower first; 0 past the end.
+#[tactic(auto, unfolding(crate::specs::Model::pair_weight))]
 fn weight_at(weights: &[u16], q: usize, r: usize) -> u16
     requires { (q < 64) × (r < 64) }
     ensures { result ≡ pair_weight weights.now q r }
 {
     let at = q * 64 + r;
-    if at < weights.len() { weights[at] } else { 0 }
+    weights.get(at).copied().unwrap_or(0)
 }
 
 // The strength s with the weights of q and each part of t.
@@ -63,13 +57,10 @@ fn strength_with(weights: &[u16], q: usize, t: Set, s: Strength) -> Strength
 {
     let mut product = s.product;
     let mut weakest = s.weakest;
-    let mut rest = t;
-    while !sets::is_empty(rest) {
-        let r = sets::lowest(rest);
+    for r in t.parts() {
         let w = weight_at(weights, q, r);
         product = times(product, w);
-        weakest = lighter(weakest, w);
-        rest = sets::without(rest, r);
+        weakest = weakest.min(w);
     }
     Strength { weakest, product }
 }
@@ -83,11 +74,9 @@ fn strength_of(weights: &[u16], set: Set) -> Strength
         weakest: 65535,
         product: 1.0,
     };
-    let mut rest = set;
-    while !sets::is_empty(rest) {
-        let q = sets::lowest(rest);
-        rest = sets::without(rest, q);
-        strength = strength_with(weights, q, rest, strength);
+    let mut parts = set.parts();
+    while let Some(q) = parts.next() {
+        strength = strength_with(weights, q, parts.left(), strength);
     }
     strength
 }
@@ -96,8 +85,7 @@ fn strength_of(weights: &[u16], set: Set) -> Strength
 pub fn score(weights: &[u16], set: Set) -> Scored
     ensures { (result.set ≡ set) × (result.product ≡ product_of (table_weights weights.now (num set))) }
 {
-    let s = strength_of(weights, set);
-    let product = s.product;
+    let product = strength_of(weights, set).product;
     Scored { set, product }
 }
 
@@ -105,8 +93,7 @@ pub fn score(weights: &[u16], set: Set) -> Scored
 fn weakest(weights: &[u16], set: Set) -> u16
     ensures { result ≡ weakest_of (table_weights weights.now (num set)) }
 {
-    let s = strength_of(weights, set);
-    s.weakest
+    strength_of(weights, set).weakest
 }
 
 // Whether a clique is percolated: by its weakest link, which only that measure looks for, or by the product that it is held with.

@@ -1,13 +1,16 @@
 -- Bytes written over lent space one after the other, and numbers of two and four bytes read back. Assumes nothing.
 use mathlib.Core.Path.{◌≡◌, refl, sym, ap, ap₂, ◌∙◌}
-use mathlib.Core.List.{List, ◌∷◌, ◌++◌, append_assoc}
-use Prim.Native.Nat.{ℕ, ◌+◌, ◌*◌, ◌/◌, ◌%◌, ◌^◌, ◌≤◌, ◌<◌}
+use mathlib.Core.Logic.{◌⊎◌, inl, inr}
+use mathlib.Core.List.{List, [], ◌∷◌, ◌++◌, append_assoc}
+use Prim.Native.Nat.{ℕ, ◌+◌, ◌*◌, ◌/◌, ◌%◌, ◌^◌, ◌≤◌, ◌<◌, min}
 use native.Mathlib.Omega.{arith}
 use native.Mathlib.Nat.{div-div-eq-div-mul}
 use lib.ListN.{length, get_or, take, drop, length-append, length-drop, take-append-drop, get_or-eq_default}
-use lib.Seq.{sets, sets-eq, take_at, drop_at, length-take-le, get_or-append-add}
+use lib.Seq.{sets, drop-drop, sets-eq, take_at, drop_at, length-take-le, get_or-append-add}
+use Rattle.std.specs.Int.{bytes_high_first}
 use Rattle.sets.specs.Value.{width, bytes, set_bytes, set_at, with_set}
-use Rattle.sets.proofs.SetBytes.{set_length_lem, two_bytes, four_bytes, put_writes, at_reads}
+use Rattle.sets.proofs.SetBytes.{set_length_lem, high_first, two_bytes, four_bytes, put_writes, at_reads}
+use Rattle.sets.proofs.Tests.{lt_or_le}
 use Rattle.records.specs.Numbers.{two_at, four_at}
 
 -- ---- written
@@ -116,3 +119,46 @@ field_four s k n F =
 -- past the end
 pub byte_past : (s : List ℕ) (i : ℕ) → length s ≤ i → get_or s i 0 ≡ 0
 byte_past s i h = get_or-eq_default s 0 h
+
+-- read at a place that is as far as a machine word counts
+pub byte_saturated : (s : List ℕ) (i j k m x : ℕ) → length s ≤ m → k ≡ min (i + j) m → x ≡ get_or s k 0 → x ≡ get_or s (i + j) 0
+byte_saturated s i j k m x h e f = go (lt_or_le m (i + j))
+  where
+    go : (m < i + j) ⊎ (i + j ≤ m) → x ≡ get_or s (i + j) 0
+    go (inl l) = f ∙ byte_past s k (omega arith) ∙ sym (byte_past s (i + j) (omega arith))
+    go (inr l) = f ∙ ap (λ (n : ℕ). get_or s n 0) (let z : k ≡ i + j = omega arith in z)
+
+-- made of bytes that were read one by one
+module _ (s y : List ℕ) (i x : ℕ) where
+  first : (get_or y 0 0 ≡ get_or s (i + 0) 0) → get_or y 0 0 ≡ get_or s i 0
+  first e = e ∙ ap (λ (n : ℕ). get_or s n 0) (let z : i + 0 ≡ i = omega arith in z)
+
+  pub two_made : ((j : ℕ) → j < 2 → get_or y j 0 ≡ get_or s (i + j) 0) → x ≡ get_or y 0 0 * 256 + get_or y 1 0 → x ≡ two_at s i
+  two_made f e = e ∙ ap₂ (λ (a b : ℕ). a * 256 + b) (first (f 0 (omega arith))) (f 1 (omega arith))
+
+  pub four_made : ((j : ℕ) → j < 4 → get_or y j 0 ≡ get_or s (i + j) 0)
+      → x ≡ get_or y 0 0 * 16777216 + get_or y 1 0 * 65536 + get_or y 2 0 * 256 + get_or y 3 0 → x ≡ four_at s i
+  four_made f e =
+      let d : get_or y 3 0 ≡ get_or s (i + 2 + 1) 0 = f 3 (omega arith) ∙ ap (λ (n : ℕ). get_or s n 0) (let z : i + 3 ≡ i + 2 + 1 = omega arith in z) in
+      omega (arith, e, first (f 0 (omega arith)), f 1 (omega arith), f 2 (omega arith), d)
+
+-- ---- written as the machine gives them
+
+-- y in the place of k bytes
+pub sets_placed : (old y z : List ℕ) (at k : ℕ) → at + k ≤ length old → length z ≡ k → y ≡ z → take at old ++ (y ++ drop k (drop at old)) ≡ sets old at z
+sets_placed old y z at k h l e =
+    ap (λ (t : List ℕ). take at old ++ (t ++ drop k (drop at old))) e ∙ sym (append_assoc (take at old) z (drop k (drop at old)))
+    ∙ ap (λ (t : List ℕ). take at old ++ z ++ t) (drop-drop k at old ∙ ap (λ (n : ℕ). drop (at + n) old) (sym l))
+    ∙ sym (sets-eq z old at (omega (arith, l)))
+
+pub two_low : (v : ℕ) → bytes_high_first 2 (v % 65536) ≡ bytes 2 v
+two_low v = high_first 2 (v % 65536) ∙ two_bytes (v % 65536) ∙ ap₂ (λ (a b : ℕ). a ∷ b ∷ []) (omega arith) (omega arith) ∙ sym (two_bytes v)
+
+pub four_low : (v : ℕ) → bytes_high_first 4 (v % 4294967296) ≡ bytes 4 v
+four_low v =
+    let w = v % 4294967296 in
+    let a : w / 16777216 % 256 ≡ v / 16777216 % 256 = omega arith in
+    let b : w / 65536 % 256 ≡ v / 65536 % 256 = omega arith in
+    let c : w / 256 % 256 ≡ v / 256 % 256 = omega arith in
+    let d : w % 256 ≡ v % 256 = omega arith in
+    high_first 4 w ∙ four_bytes w ∙ ap₂ (λ (x y : List ℕ). x ++ y) (ap₂ (λ (m n : ℕ). m ∷ n ∷ []) a b) (ap₂ (λ (m n : ℕ). m ∷ n ∷ []) c d) ∙ sym (four_bytes v)

@@ -15,10 +15,10 @@ mod tree_rows;
 
 pub use limits::{LINKS, NAMES, SLOTS};
 pub use line_fault::line_words;
-pub use listing::{families, families_now, strong_families};
+pub use listing::{Listing, families, families_now, strong_families};
 pub use means::{by_mean, mean};
-pub use names::find;
+pub use names::{find, name};
 pub use refusal::{tell, tell_run};
-pub use sheet_text::{link_words, show};
+pub use sheet_text::show;
 pub use slot_counts::slots;
 pub use tree_rows::tree;

@@ -1,97 +1,66 @@
 // The families of a listing, of a sheet at a threshold or of the links so far.
-use crate::heads::head;
-use crate::names::names;
-use console::{end, field, text};
+use crate::heads;
+use crate::names::Names;
 use sets::Set;
+use std::io;
 
-fn family(rt: &impl Print, s: &[u8], number: usize, union: Set) -> bool {
-    field(b"family ", number);
-    text(b":");
-    names(s, union);
-    end(rt)
+// The n families of a listing of a sheet: each has 16 bytes, its smallest clique from byte 0 and its parts from byte 8.
+#[derive(Clone, Copy)]
+pub struct Listing<'a> {
+    pub sheet: &'a [u8],
+    pub k: usize,
+    pub out: &'a [u8],
+    pub n: usize,
 }
 
-// One of the two sets in the 16 bytes of family i: its smallest clique from byte 0, its parts from byte 8. None past the end.
-fn set_at(out: &[u8], i: usize, from: usize) -> Set {
-    if out.len() / 16 <= i {
-        return sets::empty();
-    }
-    let at = 16 * i;
-    sets::from_bytes(&out[at..], from)
-}
-
-pub fn smallest_at(out: &[u8], i: usize) -> Set {
-    set_at(out, i, 0)
-}
-
-pub fn union_at(out: &[u8], i: usize) -> Set {
-    set_at(out, i, 8)
-}
-
-// A line for each of n families; the parts of all of them.
-fn lines(rt: &impl Print, s: &[u8], out: &[u8], n: usize) -> Set {
+// A line for each family; the parts of all of them.
+fn lines(rt: &impl Print, listing: Listing<'_>) -> io::Result<Set> {
     let mut seen = sets::empty();
-    let mut i = 0;
-    while i < n {
-        let union = union_at(out, i);
-        i += 1;
-        if !family(rt, s, i, union) {
-            return seen;
-        }
+    for (number, family) in (1..=listing.n).zip(listing.out.chunks_exact(16)) {
+        let union = sets::from_bytes(family, 8);
+        println!(rt; "family {number}:{}", Names(listing.sheet, union))?;
         seen = sets::union(seen, union);
     }
-    seen
+    Ok(seen)
 }
 
-// The parts of the sheet that are not among those seen. False where standard output takes no more.
-pub fn others(rt: &impl Print, s: &[u8], seen: Set) -> bool {
+// The parts of the sheet that are not among those seen.
+pub fn others(rt: &impl Print, s: &[u8], seen: Set) -> io::Result<()> {
     let rest = sets::minus(sets::upto(sheet::part_count(s)), seen);
     if sets::is_empty(rest) {
-        return true;
+        return Ok(());
     }
-    text(b"in no family:");
-    names(s, rest);
-    end(rt)
+    println!(rt; "in no family:{}", Names(s, rest))
 }
 
-// The first words of a listing.
-pub fn listed(n: usize, k: usize, t: u16) {
-    head(n, b"family", b"families", k);
-    field(b", threshold ", t as usize);
-}
-
-// Ends the first line, then n families by number and the parts in none.
-fn after_head(rt: &impl Print, s: &[u8], out: &[u8], n: usize) -> bool {
-    if !end(rt) {
-        return false;
-    }
-    others(rt, s, lines(rt, s, out, n))
+// The families by number and the parts in none.
+fn after_head(rt: &impl Print, listing: Listing<'_>) -> io::Result<()> {
+    let seen = lines(rt, listing)?;
+    others(rt, listing.sheet, seen)
 }
 
 // A listing's families at a threshold.
-pub fn families(rt: &impl Print, s: &[u8], k: usize, t: u16, out: &[u8], n: usize) {
-    listed(n, k, t);
-    after_head(rt, s, out, n);
+pub fn families(rt: &impl Print, listing: Listing<'_>, t: u16) -> io::Result<()> {
+    println!(rt; "{}, threshold {t}", heads::families(listing.n, listing.k))?;
+    after_head(rt, listing)
 }
 
 // A listing's families by clique strength: the measure in words, and its threshold.
 pub fn strong_families(
     rt: &impl Print,
-    s: &[u8],
-    k: usize,
-    measure: &[u8],
+    listing: Listing<'_>,
+    measure: &str,
     x: usize,
-    out: &[u8],
-    n: usize,
-) {
-    head(n, b"family", b"families", k);
-    field(measure, x);
-    text(b" or more");
-    after_head(rt, s, out, n);
+) -> io::Result<()> {
+    println!(rt;
+        "{}, {measure} {x} or more",
+        heads::families(listing.n, listing.k)
+    )?;
+    after_head(rt, listing)
 }
 
-// The families of the links so far, which have no threshold. False where standard output takes no more.
-pub fn families_now(rt: &impl Print, s: &[u8], k: usize, out: &[u8], n: usize) -> bool {
-    head(n, b"family", b"families", k);
-    after_head(rt, s, out, n)
+// The families of the links so far, which have no threshold.
+pub fn families_now(rt: &impl Print, listing: Listing<'_>) -> io::Result<()> {
+    println!(rt; "{}", heads::families(listing.n, listing.k))?;
+    after_head(rt, listing)
 }

@@ -1,41 +1,29 @@
-// Names of parts, as a sheet has them that was checked before.
-use check::same;
-use console::text;
-use memchr::memchr;
+// Names of parts, as a sheet has them that was checked before: visible characters, then spaces.
 use sets::Set;
+use std::fmt;
 
 // The name of part q without its spaces; none where the sheet has no such part.
-pub fn name(s: &[u8], q: usize) -> &[u8] {
-    let all = sheet::name_in(s, q);
-    match memchr(b' ', all) {
-        Some(end) => &all[0..end],
-        None => all,
-    }
-}
-
-fn put(s: &[u8], q: usize) {
-    text(b" ");
-    text(name(s, q));
+pub fn name(s: &[u8], q: usize) -> &str {
+    let eight = str::from_utf8(sheet::name_in(s, q)).unwrap_or("");
+    eight.trim_end_matches(' ')
 }
 
 // The names of a set's parts, each after a space.
-pub fn names(s: &[u8], set: Set) {
-    let mut rest = set;
-    while !sets::is_empty(rest) {
-        let q = sets::lowest(rest);
-        put(s, q);
-        rest = sets::without(rest, q);
+#[derive(Clone, Copy)]
+pub struct Names<'a>(pub &'a [u8], pub Set);
+
+impl fmt::Display for Names<'_> {
+    fn fmt<W: fmt::Write>(&self, f: &mut fmt::Formatter<W>) -> fmt::Result {
+        let Names(s, set) = *self;
+        for q in set.parts() {
+            let name = name(s, q);
+            write!(f, " {name}")?;
+        }
+        Ok(())
     }
 }
 
-// The part of p with this name; p where none has it. No two have the same.
-pub fn find(s: &[u8], word: &[u8], p: usize) -> usize {
-    let mut q = 0;
-    while q < p {
-        if same(name(s, q), word) {
-            return q;
-        }
-        q += 1;
-    }
-    p
+// The part of p with this name. No two have the same.
+pub fn find(s: &[u8], word: &[u8], p: usize) -> Option<usize> {
+    (0..p).find(|q| name(s, *q).as_bytes() == word)
 }

@@ -1,27 +1,26 @@
 // A refusal in words, with this program's number of slots, and where these are too few with the number that the call takes.
 use crate::limits::SLOTS;
-use console::{error, error_field, refused};
-use needs::Needed;
+use answers::{Fault, Refusal};
+use console::{Stopped, refuse};
 
-pub fn tell(s: &[u8], number: u8, place: usize) {
-    console::tell(s, number, place, SLOTS);
-}
-
-fn few_slots(place: usize, n: usize) {
-    refused(15, place);
-    error_field(b"this takes ", n);
-    error_field(b" slots, more than the ", SLOTS);
-    error(b" of this program\n");
+pub fn tell(rt: &impl Eprint, s: &[u8], refusal: Refusal) -> Stopped {
+    console::tell(rt, s, refusal, SLOTS)
 }
 
 // A refusal of a call that counts the slots of the sequential run at k and t.
-pub fn tell_run(s: &[u8], number: u8, place: usize, k: usize, t: u16) {
-    if number != 15 {
-        tell(s, number, place);
-        return;
+pub fn tell_run(rt: &impl Eprint, s: &[u8], refusal: Refusal, k: usize, t: u16) -> Stopped {
+    if refusal.fault != Fault::Slots {
+        return tell(rt, s, refusal);
     }
     match needs::of_sheet(s, k, t) {
-        Needed::Counts(_, _, n) => few_slots(place, n),
-        Needed::Refused(_, _) => tell(s, number, place),
+        Ok(needed) => {
+            let n = needed.slots;
+            refuse(
+                rt,
+                refusal,
+                format_args!("this takes {n} slots, more than the {SLOTS} of this program"),
+            )
+        }
+        Err(_) => tell(rt, s, refusal),
     }
 }

@@ -1,71 +1,63 @@
 // `slots`: what a run on a sheet needs, told before it, and how many slots suffice for its part count.
 use crate::limits::SLOTS;
 use crate::refusal::tell;
-use answers::Answer;
-use console::{counted, end, field, text};
+use console::{Counted, Stopped};
 use needs::Needed;
+use std::io;
 
 // The bytes of n slots: each has a set, a smallest clique and a union of eight bytes, and a joining entry of four. No sheet of 64 parts needs so many; the
 // test shows that the product fits.
-fn tables(rt: &impl Print, n: usize) -> bool {
+fn tables(rt: &impl Print, n: usize) -> io::Result<()> {
     let most = slots::most_slots();
     if most < n {
-        field(b"no run uses more than ", most);
-        text(b" slots");
-        return end(rt);
+        return println!(rt; "no run uses more than {most} slots");
     }
-    text(b"tables of ");
-    counted(n, b" slot");
-    text(b": ");
-    counted(28 * n, b" byte");
-    end(rt)
+    println!(rt;
+        "tables of {}: {}",
+        Counted(n, "slot"),
+        Counted(28 * n, "byte")
+    )
 }
 
-fn needed(rt: &impl Print, cliques: usize, joins: usize, n: usize, k: usize, t: u16) -> bool {
-    counted(cliques, b" clique");
-    text(b", ");
-    counted(joins, b" join");
-    text(b", ");
-    counted(n, b" slot");
-    field(b" at k ", k);
-    field(b", threshold ", t as usize);
-    if !end(rt) {
-        return false;
-    }
-    tables(rt, n)
+fn needed(rt: &impl Print, needed: Needed, k: usize, t: u16) -> io::Result<()> {
+    let Needed {
+        cliques,
+        joins,
+        slots,
+    } = needed;
+    print!(rt;
+        "{}, {}, ",
+        Counted(cliques, "clique"),
+        Counted(joins, "join")
+    )?;
+    println!(rt; "{} at k {k}, threshold {t}", Counted(slots, "slot"))?;
+    tables(rt, slots)
 }
 
 // The most that a sheet of p parts can need.
-fn bounded(rt: &impl Print, p: usize, k: usize) -> bool {
-    let Answer::Count(bound) = subsets::slot_bound(p, k) else {
-        return false;
-    };
-    text(b"at most ");
-    counted(bound, b" slot");
-    field(b" at k ", k);
-    text(b" for ");
-    counted(p, b" part");
-    end(rt)
+fn bounded(rt: &impl Print, p: usize, k: usize, bound: usize) -> io::Result<()> {
+    println!(rt;
+        "at most {} at k {k} for {}",
+        Counted(bound, "slot"),
+        Counted(p, "part")
+    )
 }
 
 // The program's own tables, beside the n slots needed.
-fn own(rt: &impl Print, n: usize) {
-    field(b"this program has ", SLOTS);
+fn own(rt: &impl Print, n: usize) -> io::Result<()> {
     if SLOTS < n {
-        field(b", fewer than these ", n);
+        return println!(rt; "this program has {SLOTS}, fewer than these {n}");
     }
-    end(rt);
+    println!(rt; "this program has {SLOTS}")
 }
 
-pub fn slots(rt: &impl Print, s: &[u8], k: usize, t: u16) {
-    match needs::of_sheet(s, k, t) {
-        Needed::Counts(cliques, joins, n) => {
-            if needed(rt, cliques, joins, n, k, t) {
-                if bounded(rt, sheet::part_count(s), k) {
-                    own(rt, n);
-                }
-            }
-        }
-        Needed::Refused(number, place) => tell(s, number, place),
+pub fn slots(rt: &(impl Print + Eprint), s: &[u8], k: usize, t: u16) -> Result<(), Stopped> {
+    let all = needs::of_sheet(s, k, t).map_err(|refusal| tell(rt, s, refusal))?;
+    needed(rt, all, k, t)?;
+    let p = sheet::part_count(s);
+    if let Ok(bound) = subsets::slot_bound(p, k) {
+        bounded(rt, p, k, bound)?;
+        own(rt, all.slots)?;
     }
+    Ok(())
 }

@@ -1,52 +1,31 @@
 // `tree`: the merge tree of a sheet, a line for each of its lines.
-use crate::heads::head;
-use crate::names::names;
-use console::{counted, end, field, text};
+use crate::heads;
+use crate::names::Names;
+use console::Counted;
+use std::io;
 
-fn joins(n: usize) {
-    if n == 0 {
-        text(b", new");
-    } else {
-        text(b", joins ");
-        counted(n, b" line");
+// A line in its 26 bytes.
+fn row(rt: &impl Print, s: &[u8], line: &[u8], number: usize) -> io::Result<()> {
+    print!(rt; "line {number}, weight {}", records::two_at(line, 0))?;
+    match records::four_at(line, 2) {
+        0 => print!(rt; ", new")?,
+        joins => print!(rt; ", joins {}", Counted(joins, "line"))?,
     }
+    match records::four_at(line, 6) {
+        0 => {}
+        into => print!(rt; ", goes into line {into}")?,
+    }
+    println!(rt; ":{}", Names(s, sets::from_bytes(line, 18)))
 }
 
-fn goes_into(n: usize) {
-    if n != 0 {
-        field(b", goes into line ", n);
+fn rows(rt: &impl Print, s: &[u8], out: &[u8], n: usize) -> io::Result<()> {
+    for i in 0..n.min(out.len() / 26) {
+        row(rt, s, &out[26 * i..26 * (i + 1)], i + 1)?;
     }
+    Ok(())
 }
 
-// The line at the start of x.
-fn row(rt: &impl Print, s: &[u8], x: &[u8], number: usize) -> bool {
-    field(b"line ", number);
-    field(b", weight ", records::two_at(x, 0));
-    joins(records::four_at(x, 2));
-    goes_into(records::four_at(x, 6));
-    text(b":");
-    names(s, sets::from_bytes(x, 18));
-    end(rt)
-}
-
-fn rows(rt: &impl Print, s: &[u8], out: &[u8], n: usize) {
-    let mut at = 0;
-    let mut i = 0;
-    while i < n {
-        if out.len() - at < 26 {
-            return;
-        }
-        i += 1;
-        if !row(rt, s, &out[at..], i) {
-            return;
-        }
-        at += 26;
-    }
-}
-
-pub fn tree(rt: &impl Print, s: &[u8], k: usize, out: &[u8], n: usize) {
-    head(n, b"line", b"lines", k);
-    if end(rt) {
-        rows(rt, s, out, n);
-    }
+pub fn tree(rt: &impl Print, s: &[u8], k: usize, out: &[u8], n: usize) -> io::Result<()> {
+    println!(rt; "{}", heads::lines(n, k))?;
+    rows(rt, s, out, n)
 }

@@ -12,9 +12,7 @@ fn raise(counts: &mut [u16], q: usize, r: usize)
     requires { (length counts.old ≡ 4096) × (q < 64) × (r < 64) × (get_or counts.old (q * 64 + r) 0 < 65535) }
     ensures { counts.new ≡ raised counts.old q r }
 {
-    let at = q * 64 + r;
-    let count = counts[at];
-    counts[at] = count + 1;
+    counts[q * 64 + r] += 1;
 }
 
 // One more at the pairs of q and each part of t.
@@ -22,11 +20,8 @@ fn count_with(counts: &mut [u16], q: usize, t: Set)
     requires { (length counts.old ≡ 4096) × (q < 64) × (num t < 2 ^ 64) × RoomWith 65535 counts.old q (num t) }
     ensures { counts.new ≡ counted_with counts.old q (num t) }
 {
-    let mut rest = t;
-    while !sets::is_empty(rest) {
-        let r = sets::lowest(rest);
+    for r in t.parts() {
         raise(counts, q, r);
-        rest = sets::without(rest, r);
     }
 }
 
@@ -35,10 +30,8 @@ pub fn count_row(counts: &mut [u16], row: u64)
     requires { (length counts.old ≡ 4096) × Room 65535 counts.old row }
     ensures { counts.new ≡ counted counts.old row }
 {
-    let mut rest = sets::from_word(row);
-    while !sets::is_empty(rest) {
-        let q = sets::lowest(rest);
-        rest = sets::without(rest, q);
-        count_with(counts, q, rest);
+    let mut parts = sets::from_word(row).parts();
+    while let Some(q) = parts.next() {
+        count_with(counts, q, parts.left());
     }
 }

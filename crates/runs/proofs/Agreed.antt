@@ -3,8 +3,7 @@
 use mathlib.Core.Path.{◌≡◌, sym, ◌∙◌}
 use mathlib.Core.List.{List}
 use Prim.Native.Nat.{ℕ}
-use Rattle.answers.specs.Answers.{counts, says}
-use Rattle.answers.specs.declared.Answer.{Answer}
+use Rattle.answers.specs.Answers.{Answer, counts, says}
 use Rattle.slots.specs.Tables.{Tables}
 use Rattle.listings.specs.Listing.{Gives}
 use Rattle.listings.proofs.Outputs.{writes_gives}

@@ -7,9 +7,11 @@ use native.Mathlib.Omega.{arith}
 use lib.Dec.{leb}
 use lib.ListN.{length, take}
 use borrow.Author.Tests.{leb-true, le-leb}
-use Rattle.answers.specs.Verdict.{Verdict, accepted, ◌then◌}
-use Rattle.answers.specs.Answers.{refuses, says}
-use Rattle.answers.specs.declared.Answer.{Answer}
+use Rattle.std.specs.Prelude.{Err}
+use Rattle.answers.specs.Verdict.{Verdict, accepted, refused, ◌then◌, unless}
+use Rattle.answers.specs.Answers.{Answer, refuses, says}
+use Rattle.answers.specs.Faults.{number_of}
+use Rattle.answers.specs.declared.Refusal.{Refusal}
 use Rattle.answers.proofs.Laws.{stop, go, then_go, then_stop}
 use Rattle.sets.specs.Value.{no_rows}
 use Rattle.sets.proofs.Tests.{iff}
@@ -20,18 +22,16 @@ use Rattle.slots.specs.Tables.{Tables, room}
 use Rattle.slots.proofs.Lengths.{room_within, enough_is}
 use Rattle.search.specs.Model.{cap, needed_by}
 use Rattle.search.proofs.SlotTally.{slots_is}
-use Rattle.sheet.specs.Answers.{sheet_says, sheet_say}
+use Rattle.sheet.specs.Answers.{holds, faulty, sheet_say}
 use Rattle.sheet.specs.Sheet.{parts, links, links_of, check_sheet}
-use Rattle.sheet.specs.declared.Checked.{Checked}
-use Rattle.sheet.specs.declared.Checked.TheVariants.{Fine, Faulty}
+use Rattle.sheet.proofs.Said.{said_faulty, said_holds}
 use Rattle.listings.specs.Listing.{check_out, Writes, WritesListing}
 use Rattle.listings.proofs.Outputs.{writes_refused, writes_same}
 use Rattle.runs.specs.Lent.{cleared}
 use Rattle.runs.specs.Model.{rows_with}
 use Rattle.runs.specs.OnSheet.{check_run, RunMeets, CallMeets, slots_of}
-use Rattle.runs.proofs.Admitted.{told_faulty, told_fine}
 use Rattle.runs.proofs.InSheet.{first_all, parts_width, first_legal, first_near}
-use Rattle.runs.proofs.Left.{left_passed, left_refused, cleared_kept}
+use Rattle.runs.proofs.Left.{left_passed, left_refused}
 
 -- ---- 15
 
@@ -65,6 +65,14 @@ slots_all s k es m all f e = e ∙ ap (λ (L : List Link). enough (length es) (s
 
 -- ---- from 15 on
 
+-- refused by what 15 says
+pub run_refused : (fits : Bool) (n : ℕ) (B old : List ℕ) (f : Refusal) → refused (number_of f.fault) f.place ≡ unless fits 15 0
+    → RunMeets fits n B old (Err f) old
+unfolding check_run
+run_refused fits n B old f e =
+    let m = number_of f.fault in
+    writes_refused (check_run fits B (length old)) n B old (Err f) m f.place (then_stop (unless fits 15 0) (check_out B (length old)) m f.place (sym e)) refl
+
 module _ (fits : Bool) (n : ℕ) (B old : List ℕ) (r : Answer) where
   pub run_short : fits ≡ false → says r ≡ refuses 15 0 → RunMeets fits n B old r old
   unfolding check_run
@@ -82,25 +90,24 @@ run_listing fits D C old r out e f w =
 
 -- ---- the whole call
 
--- where x is what the checks before 15 said of the sheet s
-module _ (before : Verdict) (fits : Bool) (n : ℕ) (B : List ℕ) (T : Tables) (old : List ℕ) (r : Answer) (s : List ℕ) (x : Checked)
-    (said : sheet_says x ≡ sheet_say before s) where
+-- by what the checks before 15 said of the sheet s
+module _ (before : Verdict) (fits : Bool) (n : ℕ) (B : List ℕ) (T : Tables) (old s : List ℕ) where
   -- refused before 15: nothing is written
-  pub call_stopped : (m a : ℕ) → x ≡ Faulty m a → says r ≡ refuses m a → CallMeets before fits n B T old r T old
-  call_stopped m a f y =
-      let e = told_faulty before s x said m a f in
+  pub call_stopped : (f : Refusal) → faulty (number_of f.fault) f.place ≡ sheet_say before s → CallMeets before fits n B T old (Err f) T old
+  call_stopped f said =
+      let m = number_of f.fault in
+      let e = said_faulty before s m f.place said in
       record {
-        writes = writes_refused (before then check_run fits B (length old)) n B old r m a (then_stop before (check_run fits B (length old)) m a e) y;
-        tables = sym (left_refused m a before T e);
+        writes = writes_refused (before then check_run fits B (length old)) n B old (Err f) m f.place (then_stop before (check_run fits B (length old)) m f.place e) refl;
+        tables = sym (left_refused m f.place before T e);
       }
 
   -- let through: what the run gives, and the tables zeroed
-  pub call_ran : (p m : ℕ) → x ≡ Fine p m → (out : List ℕ) (U W : Tables) → RunMeets fits n B old r out → W ≡ cleared U
-      → length U.sets ≡ length T.sets → length U.entries ≡ length T.entries → length U.smallest ≡ length T.smallest
-      → length U.unions ≡ length T.unions → CallMeets before fits n B T old r W out
-  call_ran p m f out U W y w a b c d =
-      let e = (told_fine before s x said p m f).0 in
+  pub call_ran : (p m : ℕ) → holds p m ≡ sheet_say before s → (r : Answer) (out : List ℕ) (W : Tables) → RunMeets fits n B old r out → W ≡ cleared T
+      → CallMeets before fits n B T old r W out
+  call_ran p m said r out W y w =
+      let e = (said_holds before s p m said).0 in
       record {
         writes = writes_same (before then check_run fits B (length old)) n B old r out _ (then_go before (check_run fits B (length old)) e) y;
-        tables = w ∙ cleared_kept T U a b c d ∙ sym (left_passed before T e);
+        tables = w ∙ sym (left_passed before T e);
       }

@@ -13,6 +13,8 @@ use Rattle.sets.proofs.Tables.{sized_same, sized_clear, row_clear}
 use Rattle.percolation.specs.Links.{cliques}
 use Rattle.percolation.proofs.Accepted.{cliques_none}
 use Rattle.slots.specs.Tables.{Tables, tables, Level, room}
+use Rattle.slots.specs.declared.Lent.{Lent}
+use Rattle.slots.specs.Lent.{tables_of, SameLent}
 use Rattle.slots_theory.specs.Shows.{Shows}
 use Rattle.slots.proofs.Lengths.{Kept, same_room}
 use Rattle.slots_theory.proofs.Shown.{none_shown}
@@ -70,6 +72,10 @@ pub cleared_kept : (T U : Tables) → length U.sets ≡ length T.sets → length
     → length U.smallest ≡ length T.smallest → length U.unions ≡ length T.unions → cleared U ≡ cleared T
 unfolding cleared
 cleared_kept T U s e m u = λ i. tables (replicate (s i) 0) (replicate (e i) 0) (replicate (m i) 0) (replicate (u i) 0) 0
+
+-- so they are the same whatever calls wrote to the lent tables
+pub cleared_lent : (l m : Lent) → SameLent l m → (i j : ℕ) → cleared (tables_of m j) ≡ cleared (tables_of l i)
+cleared_lent l m k i j = cleared_kept (tables_of l i) (tables_of m j) k.sets_length k.entries_length k.smallest_length k.unions_length
 
 -- four lists, each zeroed
 pub cleared_lists : (T : Tables) {s e m u : List ℕ} → s ≡ replicate (length T.sets) 0 → e ≡ replicate (length T.entries) 0

@@ -1,7 +1,7 @@
 -- A call on a sheet with an output: its checks in order and what it must do; the listing at a threshold by either run. Assumes nothing.
 use Rattle.std.specs.Prelude.{◌≡◌, Bool, List, ℕ, length}
 use Rattle.answers.specs.Verdict.{Verdict, ◌then◌, unless}
-use Rattle.answers.specs.declared.Answer.{Answer}
+use Rattle.answers.specs.Answers.{Answer}
 use Rattle.percolation.specs.Percolate.{Community, communities, listing_bytes}
 use Rattle.percolation.specs.Links.{Link, heavy, cliques, family, slots, listing, maximals}
 use Rattle.percolation.specs.Steps.{enough}

@@ -4,8 +4,7 @@ use mathlib.Core.List.{List}
 use Prim.Native.Nat.{ℕ}
 use native.Mathlib.Omega.{arith}
 use lib.ListN.{length}
-use Rattle.answers.specs.Answers.{refuses, says}
-use Rattle.answers.specs.declared.Answer.{Answer}
+use Rattle.answers.specs.Answers.{Answer, refuses, says}
 use Rattle.answers.proofs.Laws.{said_refused, written_refused, accepted_not}
 use Rattle.percolation.specs.Percolate.{Community, communities}
 use Rattle.percolation.specs.Links.{Link, cliques, listing, family}

@@ -1,12 +1,11 @@
 -- What a start must do is what the code does: refused by 4, 10, 11 or 20, and accepted. Assumes nothing.
 use mathlib.Core.Path.{◌≡◌, sym, ap, ◌∙◌}
-use mathlib.Core.Bool.{true, false}
 use mathlib.Core.List.{List}
 use Prim.Native.Nat.{ℕ}
 use lib.ListN.{length, replicate}
-use Rattle.answers.specs.Verdict.{Verdict, accepted, refused}
+use Rattle.answers.specs.Verdict.{Verdict, accepted, refused, unless}
 use Rattle.answers.specs.Answers.{counts, refuses, says}
-use Rattle.answers.proofs.Laws.{stop, go, last_stop, last_go, say_refused, say_accepted}
+use Rattle.answers.proofs.Laws.{then_stop, then_go, say_refused, say_accepted}
 use Rattle.sets.specs.Value.{no_rows}
 use Rattle.percolation.specs.Ranges.{good_count, good_k}
 use Rattle.slots.specs.Tables.{Tables}
@@ -17,37 +16,34 @@ use Rattle.sequential.specs.declared.Stepped.{Stepped}
 use Rattle.sequential.specs.Steps.{state, check_start, start_state, left_journal, StartMeets}
 
 module _ (p k : ℕ) (T : Tables) (J : List ℕ) where
-  pub start_4 : good_count p ≡ false → check_start p k T J ≡ refused 4 0
+  pub start_first : (n a : ℕ) → unless (good_count p) 4 0 ≡ refused n a → check_start p k T J ≡ refused n a
   unfolding check_start
-  start_4 e = stop (good_count p) 4 0 _ e
+  start_first n a e = then_stop (unless (good_count p) 4 0) _ n a e
 
-  module _ (a : good_count p ≡ true) where
-    pub start_10 : good_k k ≡ false → check_start p k T J ≡ refused 10 0
+  module _ (one : unless (good_count p) 4 0 ≡ accepted) where
+    pub start_second : (n a : ℕ) → unless (good_k k) 10 0 ≡ refused n a → check_start p k T J ≡ refused n a
     unfolding check_start
-    start_10 e = go (good_count p) 4 0 _ a ∙ stop (good_k k) 10 0 _ e
+    start_second n a e = then_go (unless (good_count p) 4 0) _ one ∙ then_stop (unless (good_k k) 10 0) _ n a e
 
-    module _ (b : good_k k ≡ true) where
-      pub start_11 : level T ≡ false → check_start p k T J ≡ refused 11 0
+    module _ (two : unless (good_k k) 10 0 ≡ accepted) where
+      pub start_third : (n a : ℕ) → unless (level T) 11 0 ≡ refused n a → check_start p k T J ≡ refused n a
       unfolding check_start
-      start_11 e = go (good_count p) 4 0 _ a ∙ go (good_k k) 10 0 _ b ∙ stop (level T) 11 0 _ e
+      start_third n a e =
+          then_go (unless (good_count p) 4 0) _ one ∙ then_go (unless (good_k k) 10 0) _ two ∙ then_stop (unless (level T) 11 0) _ n a e
 
-      module _ (d : level T ≡ true) where
-        pub start_20 : whole J ≡ false → check_start p k T J ≡ refused 20 0
-        unfolding check_start
-        start_20 e = go (good_count p) 4 0 _ a ∙ go (good_k k) 10 0 _ b ∙ go (level T) 11 0 _ d ∙ last_stop (whole J) 20 0 e
-
-        pub start_passes : whole J ≡ true → check_start p k T J ≡ accepted
-        unfolding check_start
-        start_passes e = go (good_count p) 4 0 _ a ∙ go (good_k k) 10 0 _ b ∙ go (level T) 11 0 _ d ∙ last_go (whole J) 20 0 e
+      pub start_last : unless (level T) 11 0 ≡ accepted → (v : Verdict) → unless (whole J) 20 0 ≡ v → check_start p k T J ≡ v
+      unfolding check_start
+      start_last three v e =
+          then_go (unless (good_count p) 4 0) _ one ∙ then_go (unless (good_k k) 10 0) _ two ∙ then_go (unless (level T) 11 0) _ three ∙ e
 
   module _ (r : Stepped) (U : Tables) (K : List ℕ) where
-    pub not_meets : (n : ℕ) → check_start p k T J ≡ refused n 0 → says r.answer ≡ refuses n 0 → r.state ≡ state 0 0 0 0 0 no_rows → U ≡ T → K ≡ J
+    pub not_meets : (n i : ℕ) → check_start p k T J ≡ refused n i → says r.answer ≡ refuses n i → r.state ≡ state 0 0 0 0 0 no_rows → U ≡ T → K ≡ J
         → StartMeets p k T J r U K
     unfolding start_state left_journal
-    not_meets n e a s t j = record {
-      answer = a ∙ sym (say_refused (check_start p k T J) 0 n 0 e);
+    not_meets n i e a s t j = record {
+      answer = a ∙ sym (say_refused (check_start p k T J) 0 n i e);
       state = s ∙ sym (ap (λ (v : Verdict). start_state v p k) e);
-      tables = t ∙ sym (left_refused n 0 (check_start p k T J) T e);
+      tables = t ∙ sym (left_refused n i (check_start p k T J) T e);
       journal = j ∙ sym (ap (λ (v : Verdict). left_journal v J) e);
     }
 

@@ -2,8 +2,7 @@
 -- do, so that it speaks of every program whose steps do that. Assumes nothing.
 use Rattle.std.specs.Prelude.{◌≡◌, List, [], ◌∷◌, map, ℕ, length}
 use Rattle.answers.specs.Verdict.{accepted}
-use Rattle.answers.specs.Answers.{Said, says, say_of}
-use Rattle.answers.specs.declared.Answer.{Answer}
+use Rattle.answers.specs.Answers.{Answer, Said, says, say_of}
 use Rattle.percolation.specs.Percolate.{Community, ChainListing}
 use Rattle.percolation.specs.Links.{Link, cliques, slots, listing}
 use Rattle.percolation.specs.Steps.{Step, insert, back, remaining_links, step_answers}

@@ -1,8 +1,7 @@
 -- The steps of the sequential run: what they check, what their state and tables hold, and what each must do. Assumes nothing.
 use Rattle.std.specs.Prelude.{◌≡◌, true, not, List, [], ◌∷◌, ℕ, ◌<◌, eqb, length, replicate}
 use Rattle.answers.specs.Verdict.{Verdict, accepted, refused, ◌then◌, unless}
-use Rattle.answers.specs.Answers.{refuses, says, say_of}
-use Rattle.answers.specs.declared.Answer.{Answer}
+use Rattle.answers.specs.Answers.{Answer, refuses, says, say_of}
 use Rattle.sets.specs.Lists.{◌∈◌}
 use Rattle.sets.specs.Value.{no_rows}
 use Rattle.percolation.specs.Links.{Link, cliques, listing}

@@ -3,13 +3,16 @@
 // The steps of the sequential run: start, insert, taking back, and the listing now.
 ghost use Rattle.std.specs.Prelude.{◌≡◌};
 ghost use Rattle.answers.specs.Answers.{refuses, says};
-ghost use Rattle.percolation.specs.Links.{link};
+ghost use Rattle.answers.specs.Faults.{number_of};
+ghost use Rattle.answers.specs.Model.{verdict};
 ghost use Rattle.sets.specs.Value.{no_rows};
-ghost use Rattle.slots.specs.Tables.{tables};
-ghost use Rattle.runs.specs.Lent.{lent};
-ghost use Rattle.sequential.specs.Steps.{state, StartMeets, InsertMeets, BackMeets, ListingNowMeets};
+ghost use Rattle.slots.specs.Lent.{tables_of, tables_in, SameLent};
+ghost use Rattle.journal.specs.Link.{as_link};
+ghost use Rattle.sequential.specs.Steps.{state, check_start, StartMeets, InsertMeets, BackMeets, ListingNowMeets};
 
-use answers::Answer;
+use answers::{Answer, Fault, Refusal};
+pub use journal::Link;
+use slots::{Lent, View};
 use states::State;
 
 // What a step gives back: its answer, and the state for the next one.
@@ -19,164 +22,121 @@ pub struct Stepped {
     pub state: State,
 }
 
-// A refused start: a state of zeros, which 12 refuses.
-fn not_started(n: u8) -> Stepped
-    ensures { (says result.answer ≡ refuses n 0) × (result.state ≡ state 0 0 0 0 0 no_rows) }
+// The checks of a start: 4, 10, 11, 20.
+fn check_start(p: usize, k: usize, tables: View, journal: &[u64]) -> Result<(), Refusal>
+    ensures { verdict result ≡ check_start p k (tables_in tables.entry 0) journal.now }
 {
-    let rows = sets::no_rows();
+    answers::require(checks::good_count(p), Fault::PartCount, 0)?;
+    answers::require(checks::good_k(k), Fault::CliqueSize, 0)?;
+    answers::require(runs::level(tables), Fault::Tables, 0)?;
+    answers::require(journal::whole(journal), Fault::Journal, 0)
+}
+
+// A refused start: a state of zeros, which 12 refuses.
+fn not_started(refusal: Refusal) -> Stepped
+    ensures { (says result.answer ≡ refuses (number_of refusal.fault) refusal.place) × (result.state ≡ state 0 0 0 0 0 no_rows) }
+{
     Stepped {
-        answer: Answer::Refused(n, 0),
+        answer: Err(refusal),
         state: State {
             p: 0,
             k: 0,
             used: 0,
             last: 0,
             links: 0,
-            rows,
+            rows: sets::no_rows(),
         },
     }
 }
 
 // A refused step: the state as it was.
-fn refused(n: u8, state: State) -> Stepped
-    ensures { (says result.answer ≡ refuses n 0) × (result.state ≡ state) }
+fn refused(fault: Fault, state: State) -> Stepped
+    ensures { (says result.answer ≡ refuses (number_of fault) 0) × (result.state ≡ state) }
 {
     Stepped {
-        answer: Answer::Refused(n, 0),
+        answer: Err(fault.into()),
         state,
     }
 }
 
 // Begins with no links, tables and journal all zero: 4, 10, 11, 20.
-pub fn start(
-    p: usize,
-    k: usize,
-    sets: &mut [u64],
-    entries: &mut [u32],
-    smallest: &mut [u64],
-    unions: &mut [u64],
-    journal: &mut [u64],
-) -> Stepped
-    ensures { StartMeets p k (lent sets.old entries.old smallest.old unions.old) journal.old result (lent sets.new entries.new smallest.new unions.new) journal.new }
+pub fn start(p: usize, k: usize, tables: &mut Lent, journal: &mut [u64]) -> Stepped
+    ensures lent { SameLent tables.old tables.new }
+    ensures meets { StartMeets p k (tables_of tables.old 0) journal.old result (tables_of tables.new 0) journal.new }
 {
-    if !checks::good_count(p) {
-        return not_started(4);
+    if let Err(refusal) = check_start(p, k, tables.view(), journal) {
+        return not_started(refusal);
     }
-    if !checks::good_k(k) {
-        return not_started(10);
-    }
-    if !runs::level(sets, entries, smallest, unions) {
-        return not_started(11);
-    }
-    if !journal::whole(journal) {
-        return not_started(20);
-    }
-    runs::clear(sets, entries, smallest, unions);
+    runs::clear(tables);
     sets::clear(journal);
-    let rows = sets::no_rows();
     Stepped {
-        answer: Answer::Count(0),
+        answer: Ok(0),
         state: State {
             p,
             k,
             used: 0,
             last: 65535,
             links: 0,
-            rows,
+            rows: sets::no_rows(),
         },
     }
 }
 
 // One link more: 11, 12, 20, 6 to 9, 15. A refused insert leaves state, tables and journal as they were.
-pub fn insert(
-    state: State,
-    sets: &mut [u64],
-    entries: &mut [u32],
-    smallest: &mut [u64],
-    unions: &mut [u64],
-    journal: &mut [u64],
-    low: usize,
-    high: usize,
-    weight: u16,
-) -> Stepped
-    ensures { InsertMeets state (tables sets.old entries.old smallest.old unions.old state.used) journal.old (link low high weight) result (tables sets.new entries.new smallest.new unions.new result.state.used) journal.new }
+pub fn insert(state: State, tables: &mut Lent, journal: &mut [u64], link: Link) -> Stepped
+    ensures lent { SameLent tables.old tables.new }
+    ensures meets { InsertMeets state (tables_of tables.old state.used) journal.old (as_link link) result (tables_of tables.new result.state.used) journal.new }
 {
-    let n = states::insert_number(
-        state, sets, entries, smallest, unions, journal, low, high, weight,
-    );
-    if n != 0 {
-        return refused(n, state);
+    if let Err(fault) = states::check_insert(state, tables.view(), journal, link) {
+        return refused(fault, state);
     }
     let mut rows = state.rows;
-    let used = runs::take_link(
-        &mut rows, sets, entries, smallest, unions, state.used, state.k, low, high,
-    );
-    let links = journal::add(journal, state.links, low, high, weight);
+    let used = runs::take_link(&mut rows, tables, state.used, state.k, link.low, link.high);
+    let links = journal::add(journal, state.links, link);
+    let weight = usize::from(link.weight);
     Stepped {
-        answer: Answer::Count(0),
+        answer: Ok(0),
         state: State {
-            p: state.p,
-            k: state.k,
             used,
-            last: weight as usize,
+            last: weight,
             links,
             rows,
+            ..state
         },
     }
 }
 
 // The last link taken back: 11, 12, 20, 19. The tables are made again from the journal where the link made a k-clique. A refused one leaves state, tables and
 // journal as they were.
-pub fn take_back(
-    state: State,
-    sets: &mut [u64],
-    entries: &mut [u32],
-    smallest: &mut [u64],
-    unions: &mut [u64],
-    journal: &mut [u64],
-) -> Stepped
-    ensures { BackMeets state (tables sets.old entries.old smallest.old unions.old state.used) journal.old result (tables sets.new entries.new smallest.new unions.new result.state.used) journal.new }
+pub fn take_back(state: State, tables: &mut Lent, journal: &mut [u64]) -> Stepped
+    ensures lent { SameLent tables.old tables.new }
+    ensures meets { BackMeets state (tables_of tables.old state.used) journal.old result (tables_of tables.new result.state.used) journal.new }
 {
-    let n = states::back_number(state, sets, entries, smallest, unions, journal);
-    if n != 0 {
-        return refused(n, state);
+    if let Err(fault) = states::check_back(state, tables.view(), journal) {
+        return refused(fault, state);
     }
     let p = state.p;
-    let k = state.k;
     let links = journal::one_less(state.links);
     let last = journal::last_weight(journal, links);
     let rows = journal::rows_of(journal, links, p);
-    let used = journal::refill(
-        journal, links, p, k, state.used, &rows, sets, entries, smallest, unions,
-    );
+    let used = journal::refill(journal, links, p, state.k, state.used, &rows, tables);
     journal::put(journal, links, 0);
     Stepped {
-        answer: Answer::Count(0),
+        answer: Ok(0),
         state: State {
-            p,
-            k,
             used,
             last,
             links,
             rows,
+            ..state
         },
     }
 }
 
 // The listing of the links that remain: 11, 12, 16. It writes no table.
-pub fn listing_now(
-    state: State,
-    sets: &[u64],
-    entries: &[u32],
-    smallest: &[u64],
-    unions: &[u64],
-    out: &mut [u8],
-) -> Answer
-    ensures { ListingNowMeets state (tables sets.now entries.now smallest.now unions.now state.used) out.old result out.new }
+pub fn listing_now(state: State, tables: View, out: &mut [u8]) -> Answer
+    ensures { ListingNowMeets state (tables_in tables.entry state.used) out.old result out.new }
 {
-    let n = states::state_number(state, sets, entries, smallest, unions);
-    if n != 0 {
-        return Answer::Refused(n, 0);
-    }
-    listings::list_roots(entries, smallest, unions, state.used, out)
+    states::check_state(state, tables)?;
+    listings::list_roots(tables, state.used, out)
 }

@@ -1,4 +1,5 @@
 pub mod Facts
+pub mod Given
 pub mod Glue
 pub mod Held
 pub mod Insertion

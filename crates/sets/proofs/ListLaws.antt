@@ -6,6 +6,9 @@ use mathlib.Core.List.Memᴰ
 use mathlib.Core.List.{List, [], ◌∷◌, ◌++◌, map, flatten, append-nil, append_assoc}
 use Prim.Native.Nat.{ℕ, zero, suc, ◌+◌, ◌-◌, ◌≤◌, ◌<◌}
 use native.Mathlib.Omega.{arith}
+use native.Mathlib.Numerals.{add-one}
+use lib.Pointwise.{pointwise}
+use Rattle.std.specs.List.{list_any, list_all, range_with_len}
 use lib.Dec.{ltb, eqb}
 use lib.ListN.{length, get_or, length-append}
 use borrow.Author.Tests.{ltb-true, ltb-false, lt-ltb, le-ltb, eq-eqb, eqb-true, not-true}
@@ -769,3 +772,36 @@ same_of [] [] e = refl
 same_of [] (c ∷ b) e = never false e refl
 same_of (x ∷ a) [] e = never false e refl
 same_of (x ∷ a) (c ∷ b) e = ap₂ ◌∷◌ (eqb-true x c (and_left (eqb x c) (same a b) e)) (same_of a b (and_right (eqb x c) (same a b) e))
+
+-- ---- as iterators give them: a range's numbers, and tests over a list
+
+range_from : (a n : ℕ) → range_with_len a n ≡ from a n
+unfolding from
+range_from a zero = refl
+range_from a (suc n) = ap (λ (l : List ℕ). a ∷ l) (ap (λ (k : ℕ). range_with_len k n) (add-one a) ∙ range_from (suc a) n)
+
+pub range_below : (n : ℕ) → range_with_len 0 n ≡ below n
+unfolding below
+range_below n = range_from 0 n
+
+pub any_list : {A : Type 0} (f : A → Bool) (l : List A) → list_any f l ≡ any f l
+unfolding any
+any_list f [] = refl
+any_list f (x ∷ l) = ap (λ (t : Bool). f x || t) (any_list f l)
+
+pub all_list : {A : Type 0} (f : A → Bool) (l : List A) → list_all f l ≡ all f l
+unfolding all
+all_list f [] = refl
+all_list f (x ∷ l) = ap (λ (t : Bool). f x && t) (all_list f l)
+
+pub all_same : {A : Type 0} (f g : A → Bool) (l : List A) → ((x : A) → f x ≡ g x) → all f l ≡ all g l
+unfolding all
+all_same f g [] h = refl
+all_same f g (x ∷ l) h = ap₂ ◌&&◌ (h x) (all_same f g l h)
+
+pub pointwise_same : (a b : List ℕ) → pointwise eqb a b ≡ same a b
+unfolding same
+pointwise_same [] [] = refl
+pointwise_same [] (c ∷ b) = refl
+pointwise_same (x ∷ a) [] = refl
+pointwise_same (x ∷ a) (c ∷ b) = ap (λ (t : Bool). eqb x c && t) (pointwise_same a b)

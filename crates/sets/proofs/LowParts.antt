@@ -11,7 +11,7 @@ use borrow.Author.Tests.{le-ltb, lt-ltb, eqb-false}
 use lib.Arith.{bin_ind, half_le}
 use lib.Dec.{ltb, eqb}
 use Rattle.sets.specs.Sets.{has, union, into, out, size, sub, before, lowest, lows_in, lows}
-use Rattle.sets.proofs.Laws.{has_empty, has_lt, has_sub, size_step, size_empty, size_out, sub_half, sub_odd, sub_up, sub_refl, sub_trans, out_sub, out_less, into_odd, into_half, into_low, into_rest, into_across, out_odd, out_half, out_low, out_rest}
+use Rattle.sets.proofs.Laws.{has_empty, has_lt, has_sub, size_step, size_empty, size_out, sub_half, sub_odd, sub_up, sub_refl, sub_trans, out_sub, out_less, into_odd, into_half, into_low, into_rest, into_across, out_odd, out_half, out_low, out_rest, union_empty}
 use Rattle.sets.proofs.Members.{digit, lowest_has, lowest_step, answer_has}
 
 more : (f k n : ℕ) → n ≤ f → lows_in (suc f) k n ≡ lows_in f k n
@@ -157,3 +157,8 @@ lows_turn w k n t q u m h p eq eu em =
     let l : q < w = has_lt w q n h (answer_has w n q p eq) in
     let e : u ≡ into (lowest n) t = eu ∙ ap (λ (b : Bool). cond b (into q t) t) (lt-ltb q w l) ∙ ap (λ (x : ℕ). into x t) same in
     ap₂ (λ (x y : ℕ). union x (lows k y)) e (em ∙ ap (λ (x : ℕ). out x n) same) ∙ lows_take k n t (eqb-false n 0 p)
+
+-- none is left to take: the count is used up or the set is empty
+pub lows_over : (k n t r : ℕ) → (0 < k → n ≡ 0) → union t (lows k n) ≡ r → t ≡ r
+lows_over zero n t r z e = sym (ap (union t) (lows_none n) ∙ union_empty t) ∙ e
+lows_over (suc k) n t r z e = sym (ap (λ (x : ℕ). union t (lows (suc k) x)) (z (omega arith)) ∙ ap (union t) (lows_empty (suc k)) ∙ union_empty t) ∙ e

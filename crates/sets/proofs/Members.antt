@@ -234,6 +234,12 @@ members_next p s some fits =
     back q (inl e) = let h : has q s ≡ true = ap (λ (x : ℕ). has x s) e ∙ lowest_has s some in member_in p s q (has_lt p q s fits h) h
     back q (inr m) = let r = in_member p (out (lowest s) s) q m in member_in p s q r.0 (other q r.1).0
 
+-- by the code's `lowest` and `without`
+pub members_answer : (w n q m : ℕ) → eqb n 0 ≡ false → q ≡ cond (eqb n 0) w (lowest n) → n < 2 ^ w → m ≡ out q n → members w n ≡ q ∷ members w m
+members_answer w n q m some e fits d =
+    let low : q ≡ lowest n = e ∙ ap (λ (x : Bool). cond x w (lowest n)) some in
+    rw (d, low) (members_next w n (eqb-false n 0 some) fits)
+
 -- ---- the set of all parts below p
 
 pub has_full : (q p : ℕ) → has q (full p) ≡ ltb q p

@@ -1,12 +1,16 @@
 -- The order of sets: strict and total; the lesser of two sets. Assumes nothing.
-use mathlib.Core.Bool.{Bool, true, false, cond}
+use mathlib.Core.Bool.{true, false}
 use mathlib.Core.Logic.{◌⊎◌, inl, inr}
 use mathlib.Core.Path.{◌≡◌, sym, ap, ◌∙◌, subst}
 use Prim.Native.Nat.{ℕ}
 use native.Mathlib.Nat.{le_refl}
 use native.Mathlib.Omega.{arith}
 use borrow.Author.Tests.{ltb-true, ltb-false, lt-ltb, le-ltb}
+use Rattle.std.proofs.Common.{rules, Bool, cond, eqb}
+use Rattle.std.specs.Ordering.{is_lt, nat_cmp}
+use Rattle.sets.specs.declared.Set.{Set}
 use Rattle.sets.specs.Sets.{before, lesser}
+use Rattle.sets.specs.Value.{num}
 use Rattle.sets.proofs.ListLaws.{Order, not_before}
 use Rattle.sets.proofs.Tests.{split, never, not_so}
 
@@ -27,11 +31,22 @@ before_total a b p q = omega (arith, ltb-false a b p, ltb-false b a q)
 pub set_order : Order before
 set_order = record { irrefl = before_irrefl; trans = before_trans; total = before_total }
 
--- ---- the lesser of two sets
+-- ---- what `==`, `<` and `min` say of two sets, for a caller that compares them so
 
-pub lesser_is : (a b : ℕ) (t u : Bool) → t ≡ before b a → t ≡ u → cond u b a ≡ lesser a b
-unfolding lesser
-lesser_is a b t u p e = ap (λ (x : Bool). cond x b a) (sym e ∙ p)
+module _ (s t : Set) where
+  pub equal_is : (r : Bool) → r ≡ eqb s.word t.word → r ≡ eqb (num s) (num t)
+  unfolding num
+  equal_is r e = e
+
+  pub less_is : (r : Bool) → r ≡ is_lt (nat_cmp s.word t.word) → r ≡ before (num s) (num t)
+  unfolding before num
+  less_is r e = search rules
+
+  pub lesser_is : (u : Set) → u ≡ cond (is_lt (nat_cmp t.word s.word)) t s → num u ≡ lesser (num s) (num t)
+  unfolding before num lesser
+  lesser_is u e = search rules
+
+-- ---- the lesser of two sets
 
 module _ (a b : ℕ) where
   lesser_second : before b a ≡ true → lesser a b ≡ b

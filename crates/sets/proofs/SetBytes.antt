@@ -1,18 +1,19 @@
 -- The bytes of a number and of a set: how many they are and which, written one after the other over lent space, and read back. Assumes nothing.
 use mathlib.Core.Path.{◌≡◌, refl, sym, ap, ap₂, ◌∙◌}
-use mathlib.Core.Bool.{false}
+use mathlib.Core.Bool.{true, false}
 use mathlib.Core.Logic.{◌⊎◌, inl, inr}
 use mathlib.Core.List.{List, [], ◌∷◌, ◌++◌, append_assoc, foldl}
 use Prim.Native.Nat.{ℕ, zero, suc, ◌+◌, ◌-◌, ◌*◌, ◌/◌, ◌%◌, ◌^◌, ◌≤◌, ◌<◌}
 use native.Mathlib.Omega.{arith}
-use native.Mathlib.Nat.{pow-suc, pow-succ', pow-le-pow_right, one-le-pow, div-one, mod-lt, mod-eq_of_lt}
-use native.Mathlib.Numerals.{add-one}
+use native.Mathlib.Nat.{pow-succ', one-le-pow, div-one, mod-lt, mod-eq_of_lt}
 use lib.Arith.{mod-mul}
 use lib.Dec.{leb}
-use lib.ListN.{length, get_or, set, take, drop, length-append, length-drop}
-use lib.Pow.{pow-add}
-use lib.Seq.{paste, paste-suc, take_at, take_all, drop_at, drop-cons, drop-length, get_or-take, get_or-drop, length-take-le}
-use borrow.Author.Tests.{le-leb, lt-leb}
+use lib.ListN.{length, get_or, take, drop, length-append, length-drop, get_or-eq_default}
+use lib.Seq.{take_at, drop_at, drop-drop, get_or-take, get_or-drop, length-take-le}
+use borrow.Author.Tests.{le-leb, leb-true}
+use Rattle.std.proofs.Common.{length-take}
+use Rattle.std.proofs.lemmas.Nat.{be_bytes_8}
+use Rattle.std.specs.Int.{w64, bytes_high_first, from_be_bytes}
 use Rattle.sets.specs.Value.{width, bytes, set_bytes, set_length, from_bytes, with_set, set_at}
 use Rattle.sets.proofs.Tests.{lt_or_le, cond_go, cond_stop}
 
@@ -52,42 +53,23 @@ byte_at (suc m) n zero h = ap (λ (k : ℕ). n / 256 ^ k % 256) (let e : m ≡ s
 byte_at (suc m) n (suc i) h =
     byte_at m n i (omega arith) ∙ ap (λ (k : ℕ). n / 256 ^ k % 256) (let e : m - 1 - i ≡ suc m - 1 - suc i = omega arith in e)
 
--- ---- room for them
-
-pub room_test : (n at : ℕ) → at < n → leb set_length (n - at) ≡ leb (at + set_length) n
-room_test n at h = go (lt_or_le n (at + set_length))
-  where
-    go : (n < at + set_length) ⊎ (at + set_length ≤ n) → leb set_length (n - at) ≡ leb (at + set_length) n
-    go (inl l) = lt-leb set_length (n - at) (omega arith) ∙ sym (lt-leb (at + set_length) n l)
-    go (inr l) = le-leb set_length (n - at) (omega arith) ∙ sym (le-leb (at + set_length) n l)
+-- what the machine's number gives, high byte first
+pub high_first : (m n : ℕ) → bytes_high_first m n ≡ bytes m n
+unfolding bytes
+high_first zero n = refl
+high_first (suc zero) n = ap (λ (x : ℕ). x % 256 ∷ []) (sym (div-one n))
+high_first (suc (suc m)) n = ap (λ (l : List ℕ). n / 256 ^ suc m % 256 ∷ l) (high_first (suc m) n)
 
 -- ---- written
 
-pow_bytes : (k : ℕ) → 2 ^ (8 * k) ≡ 256 ^ k
-pow_bytes zero = refl
-pow_bytes (suc k) =
-    ap (λ (j : ℕ). 2 ^ j) (let e : 8 * suc k ≡ 8 + 8 * k = omega arith in e) ∙ pow-add 2 8 (8 * k) ∙ ap (λ (p : ℕ). 256 * p) (pow_bytes k) ∙ sym (pow-succ' 256 k)
-
--- `n >> (56 - 8 * i)`, its lowest byte
-shifted : (n i : ℕ) → i < set_length → n / 2 ^ (56 - 8 * i) % 256 ≡ get_or (set_bytes n) i 0
-unfolding set_bytes
-shifted n i h =
-    ap (λ (j : ℕ). n / 2 ^ j % 256) (let e : 56 - 8 * i ≡ 8 * (8 - 1 - i) = omega arith in e)
-    ∙ ap (λ (p : ℕ). n / p % 256) (pow_bytes (8 - 1 - i)) ∙ sym (byte_at 8 n i h)
-
--- one byte more, the first i being there
-pub put_more : (d t : List ℕ) (at n i : ℕ) → at + set_length ≤ length d → i < set_length → t ≡ paste d at (set_bytes n) i
-    → set t (at + i) (n / 2 ^ (56 - 8 * i) % 256) ≡ paste d at (set_bytes n) (i + 1)
-put_more d t at n i fits h e =
-    ap₂ (λ (u : List ℕ) (v : ℕ). set u (at + i) v) e (shifted n i h)
-    ∙ paste-suc d at (set_bytes n) i 0 (omega arith) (omega (arith, set_length_lem n)) ∙ ap (paste d at (set_bytes n)) (sym (add-one i))
-
--- all of them are there
-pub put_all : (d : List ℕ) (at n i : ℕ) → at + set_length ≤ length d → i ≡ set_length → paste d at (set_bytes n) i ≡ with_set d at n
+-- they fit, and stand there: y in the place of k bytes
+pub put_all : (d y : List ℕ) (at k n : ℕ) → leb (at + set_length) (length d) ≡ true → k ≡ set_length → y ≡ set_bytes n
+    → take at d ++ (y ++ drop k (drop at d)) ≡ with_set d at n
 unfolding with_set
-put_all d at n i fits z =
-    cond_go (leb (at + set_length) (length d)) (take at d ++ set_bytes n ++ drop (at + set_length) d) d (le-leb (at + set_length) (length d) fits)
-    (ap₂ (λ (u : List ℕ) (j : ℕ). take at d ++ u ++ drop (at + j) d) (take_all i (set_bytes n) (omega (arith, set_length_lem n))) z)
+put_all d y at k n t z e =
+    sym (append_assoc (take at d) y (drop k (drop at d)))
+    ∙ ap₂ (λ (u v : List ℕ). take at d ++ u ++ v) e (drop-drop k at d ∙ ap (λ (j : ℕ). drop (at + j) d) z)
+    ∙ cond_go (leb (at + set_length) (length d)) (take at d ++ set_bytes n ++ drop (at + set_length) d) d t refl
 
 -- where they do not fit nothing changes
 pub put_none : (d : List ℕ) (at n : ℕ) → leb (at + set_length) (length d) ≡ false → d ≡ with_set d at n
@@ -111,47 +93,12 @@ put_writes old new k s w a x b e l m =
 -- ---- read
 
 -- the number so far, with one byte more
-abbrev pub more : ℕ → ℕ → ℕ
+abbrev more : ℕ → ℕ → ℕ
 more n b = n * 256 + b
 
 -- the bytes of a set from `at` on
-abbrev pub bytes_at : List ℕ → ℕ → List ℕ
+abbrev bytes_at : List ℕ → ℕ → List ℕ
 bytes_at s at = take set_length (drop at s)
-
--- w with the bytes from i on is what all of them give
-abbrev pub ReadTo : List ℕ → ℕ → ℕ → ℕ → Type 0
-ReadTo s at i w = foldl more w (drop i (bytes_at s at)) ≡ from_bytes (bytes_at s at)
-
-pub read_none : (s : List ℕ) (at : ℕ) → ReadTo s at 0 0
-unfolding from_bytes
-read_none s at = refl
-
-length_at : (s : List ℕ) (at : ℕ) → at + set_length ≤ length s → length (bytes_at s at) ≡ set_length
-length_at s at fits = length-take-le set_length (drop at s) (omega (arith, length-drop at s))
-
-pub read_more : (s : List ℕ) (at i w : ℕ) → at + set_length ≤ length s → i < set_length → ReadTo s at i w → ReadTo s at (i + 1) (w * 256 + get_or s (at + i) 0)
-read_more s at i w fits h r =
-    let byte : get_or (bytes_at s at) i 0 ≡ get_or s (at + i) 0 = get_or-take set_length (drop at s) i 0 h ∙ get_or-drop at s i 0 in
-    let first : drop i (bytes_at s at) ≡ get_or s (at + i) 0 ∷ drop (i + 1) (bytes_at s at) =
-    drop-cons (bytes_at s at) i 0 (omega (arith, length_at s at fits)) ∙ ap₂ (λ (b j : ℕ). b ∷ drop j (bytes_at s at)) byte (sym (add-one i)) in
-    sym (ap (λ (l : List ℕ). foldl more w l) first) ∙ r
-
--- one byte more fits the word
-pub read_bound : (i w y : ℕ) → w < 256 ^ i → y < 256 → w * 256 + y < 256 ^ (i + 1)
-read_bound i w y l m = omega (arith, ap (λ (j : ℕ). 256 ^ j) (add-one i), pow-suc 256 i)
-
-pub read_word : (i w : ℕ) → i < set_length → w < 256 ^ i → w * 256 + 255 < 2 ^ width
-read_word i w h l =
-    let e : i ≤ set_length - 1 = omega arith in
-    let p : 256 ^ i ≤ 256 ^ (set_length - 1) = pow-le-pow_right (omega arith) e in omega arith
-
--- all of them are read
-pub read_all : (s : List ℕ) (at i w : ℕ) → at + set_length ≤ length s → i ≡ set_length → ReadTo s at i w → w ≡ set_at s at
-unfolding set_at
-read_all s at i w fits z r =
-    let none : drop i (bytes_at s at) ≡ [] = ap (λ (j : ℕ). drop j (bytes_at s at)) (z ∙ sym (length_at s at fits)) ∙ drop-length (bytes_at s at) in
-    cond_go (leb (at + set_length) (length s)) (from_bytes (bytes_at s at)) 0 (le-leb (at + set_length) (length s) fits)
-    (sym (ap (λ (l : List ℕ). foldl more w l) none) ∙ r)
 
 -- where there are too few it is the empty set
 pub read_few : (s : List ℕ) (at n : ℕ) → leb (at + set_length) (length s) ≡ false → n ≡ 0 → n ≡ set_at s at
@@ -174,6 +121,29 @@ fold_bytes (suc m) n a =
 pub from_bytes_lem : (m n : ℕ) → n < 256 ^ m → from_bytes (bytes m n) ≡ n
 unfolding from_bytes
 from_bytes_lem m n h = let e : 0 * 256 ^ m + n % 256 ^ m ≡ n % 256 ^ m = omega arith in fold_bytes m n 0 ∙ e ∙ mod-eq_of_lt h
+
+-- a part of a list of bytes is one too
+part_small : (s : List ℕ) (at i : ℕ) → ((j : ℕ) → get_or s j 0 < 256) → get_or (bytes_at s at) i 0 < 256
+part_small s at i small = go (lt_or_le i set_length)
+  where
+    go : (i < set_length) ⊎ (set_length ≤ i) → get_or (bytes_at s at) i 0 < 256
+    go (inl h) = rw (get_or-take set_length (drop at s) i 0 h ∙ get_or-drop at s i 0) (small (at + i))
+    go (inr h) =
+        let l : length (bytes_at s at) ≤ i = omega (arith, length-take set_length (drop at s)) in
+        rw (get_or-eq_default (bytes_at s at) 0 l) (omega arith)
+
+-- all of them are read, and the machine makes n of them
+pub read_all : (s bs : List ℕ) (at k n : ℕ) → leb (at + set_length) (length s) ≡ true → ((i : ℕ) → get_or s i 0 < 256) → k ≡ set_length
+    → bs ≡ take k (drop at s) → n < 2 ^ width → n ≡ from_be_bytes w64 bs → n ≡ set_at s at
+unfolding set_at
+read_all s bs at k n t small z e h m =
+    let there : bs ≡ bytes_at s at = e ∙ ap (λ (j : ℕ). take j (drop at s)) z in
+    let long : length bs ≡ 8 =
+    ap length there ∙ length-take-le set_length (drop at s) (omega (arith, length-drop at s, leb-true (at + set_length) (length s) t)) in
+    let back : bytes set_length n ≡ bs =
+    sym (high_first set_length n) ∙ be_bytes_8 bs n long (λ i. rw there (part_small s at i small)) m in
+    sym (from_bytes_lem set_length n h) ∙ ap from_bytes (back ∙ there)
+    ∙ cond_go (leb (at + set_length) (length s)) (from_bytes (bytes_at s at)) 0 t refl
 
 -- m is the number of the set whose bytes stand at k
 abbrev pub ReadsSet : List ℕ → ℕ → ℕ → Type 0

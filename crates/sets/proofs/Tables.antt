@@ -12,7 +12,7 @@ use lib.Seq.{sets, length-sets}
 use Rattle.sets.specs.Words.{number, words, words_at}
 use Rattle.sets.specs.Value.{set_words, width, rows, row, store, sized, no_rows}
 use Rattle.sets.proofs.Tests.{lt_or_le}
-use Rattle.sets.proofs.WordLists.{words_length, number_back, sets_other, at_sets, at_same, at_zero}
+use Rattle.sets.proofs.WordLists.{words_length, number_one, number_back, sets_other, at_sets, at_same, at_zero}
 
 -- as many words as these rows have
 pub rows_fit : (xs : List ℕ) (i : ℕ) → i < rows xs → i * set_words + set_words ≤ length xs
@@ -26,6 +26,18 @@ row_in xs i h = ap (λ (b : Bool). cond b (number (words_at set_words xs (i * se
 pub row_past : (xs : List ℕ) (i : ℕ) → rows xs ≤ i → row xs i ≡ 0
 unfolding row
 row_past xs i h = ap (λ (b : Bool). cond b (number (words_at set_words xs (i * set_words))) 0) (le-ltb i (rows xs) h)
+
+-- a row of one word
+pub row_word : (xs : List ℕ) (i : ℕ) → get_or xs i 0 ≡ row xs i
+unfolding rows words_at
+row_word xs i = go (lt_or_le i (rows xs))
+  where
+    first : get_or xs i 0 ≡ number (words_at set_words xs (i * set_words))
+    first = ap (λ (k : ℕ). get_or xs k 0) (let e : i ≡ i * set_words = omega arith in e) ∙ sym (number_one (get_or xs (i * set_words) 0))
+
+    go : (i < rows xs) ⊎ (rows xs ≤ i) → get_or xs i 0 ≡ row xs i
+    go (inl l) = first ∙ sym (row_in xs i l)
+    go (inr l) = get_or-eq_default xs 0 (let e : length xs ≤ i = omega arith in e) ∙ sym (row_past xs i l)
 
 pub store_in : (xs : List ℕ) (i n : ℕ) → i < rows xs → store xs i n ≡ sets xs (i * set_words) (words set_words n)
 unfolding store

@@ -3,11 +3,16 @@
 // Sets of parts 0 to 63, held by value, and tables of them. The number of a set is `num` of specs/Value.antt; each contract gives the
 // number of the answer by a function of specs/Sets.antt, and a table by the functions of specs/Value.antt.
 ghost use Rattle.std.specs.Prelude.{◌≡◌, cond, ltb, leb, eqb, length, replicate, min, ◌+◌};
-ghost use Rattle.sets.specs.Sets.{has, one, meet, union, minus, into, out, size, sub, before, lesser, lowest, lows, full};
+ghost use Rattle.sets.specs.Sets.{has, one, meet, union, minus, into, out, size, sub, before, lesser, lowest, lows, members, full};
 ghost use Rattle.sets.specs.Value.{width, num, rows, row, store, sized, number_at, no_rows, set_length, with_set, set_at};
+ghost use Rattle.sets.specs.Rest.{left_of, rest};
+
+mod walk;
+
+pub use walk::Iter;
 
 // Its word is nobody else's to see: a wider set changes this crate alone.
-#[derive(Clone, Copy)]
+#[derive(Clone, Copy, Debug, PartialEq, Eq, PartialOrd, Ord)]
 pub struct Set {
     word: u64,
 }
@@ -47,11 +52,7 @@ pub fn upto(p: usize) -> Set
 pub fn has(s: Set, q: usize) -> bool
     ensures { result ≡ has q (num s) }
 {
-    if q < 64 {
-        (s.word >> q) & 1 == 1
-    } else {
-        false
-    }
+    q < 64 && (s.word >> q) & 1 == 1
 }
 
 pub fn union(s: Set, t: Set) -> Set
@@ -98,7 +99,7 @@ pub fn without(s: Set, q: usize) -> Set
 pub fn count(s: Set) -> usize
     ensures { result ≡ size (num s) }
 {
-    u64::count_ones(s.word) as usize
+    s.word.count_ones() as usize
 }
 
 // Whether each part of s is one of t.
@@ -112,27 +113,27 @@ pub fn subset(s: Set, t: Set) -> bool
 pub fn less(s: Set, t: Set) -> bool
     ensures { result ≡ before (num s) (num t) }
 {
-    s.word < t.word
+    s < t
 }
 
 pub fn same(s: Set, t: Set) -> bool
     ensures { result ≡ eqb (num s) (num t) }
 {
-    s.word == t.word
+    s == t
 }
 
 // The lesser of two sets.
 pub fn lesser(s: Set, t: Set) -> Set
     ensures { num result ≡ lesser (num s) (num t) }
 {
-    if less(t, s) { t } else { s }
+    s.min(t)
 }
 
 // The lowest part, and 64 for the empty set.
 pub fn lowest(s: Set) -> usize
     ensures { result ≡ cond (eqb (num s) 0) width (lowest (num s)) }
 {
-    u64::trailing_zeros(s.word) as usize
+    s.word.trailing_zeros() as usize
 }
 
 pub fn is_empty(s: Set) -> bool
@@ -146,18 +147,20 @@ pub fn lows(s: Set, k: usize) -> Set
     ensures { num result ≡ lows k (num s) }
 {
     let mut taken = empty();
-    let mut rest = s;
-    let mut n = 0;
-    while n < k {
-        if is_empty(rest) {
-            return taken;
-        }
-        let q = lowest(rest);
+    for q in s.parts().take(k) {
         taken = with(taken, q);
-        rest = without(rest, q);
-        n += 1;
     }
     taken
+}
+
+impl Set {
+    // The parts, the lowest first.
+    pub fn parts(self) -> Iter
+        ensures left { left_of result ≡ num self }
+        ensures gives { rest result ≡ members width (num self) }
+    {
+        Iter { set: self }
+    }
 }
 
 // The set of one word, and the word of a set, for the C interface. A wider set will take more words.
@@ -208,10 +211,8 @@ pub fn sized(table: &[u64], n: usize) -> bool
 pub fn at(table: &[u64], i: usize) -> Set
     ensures { num result ≡ row table.now i }
 {
-    if i < table.len() {
-        Set { word: table[i] }
-    } else {
-        Set { word: 0 }
+    Set {
+        word: table.get(i).copied().unwrap_or(0),
     }
 }
 
@@ -241,11 +242,7 @@ pub fn put_number(table: &mut [u64], i: usize, n: u64)
 pub fn clear(table: &mut [u64])
     ensures { table.new ≡ replicate (length table.old) 0 }
 {
-    let mut i = 0;
-    while i < table.len() {
-        table[i] = 0;
-        i += 1;
-    }
+    table.fill(0);
 }
 
 // How many bytes a set has.
@@ -259,7 +256,7 @@ pub fn byte_count() -> usize
 fn has_room(n: usize, at: usize) -> bool
     ensures { result ≡ leb (at + set_length) n }
 {
-    if at < n { 8 <= n - at } else { false }
+    8 <= n.saturating_sub(at)
 }
 
 // The bytes of s from `at` on, high byte first; where they do not fit nothing changes.
@@ -269,13 +266,7 @@ pub fn put_bytes(out: &mut [u8], at: usize, s: Set)
     if !has_room(out.len(), at) {
         return;
     }
-    let word = s.word;
-    let mut i = 0;
-    while i < 8 {
-        let byte = (word >> (56 - 8 * i)) % 256;
-        out[at + i] = byte as u8;
-        i += 1;
-    }
+    copying::copy(&s.word.to_be_bytes(), &mut out[at..at + 8]);
 }
 
 // The set whose bytes stand from `at` on; the empty set where there are too few.
@@ -285,11 +276,9 @@ pub fn from_bytes(src: &[u8], at: usize) -> Set
     if !has_room(src.len(), at) {
         return empty();
     }
-    let mut word: u64 = 0;
-    let mut i = 0;
-    while i < 8 {
-        word = word * 256 + src[at + i] as u64;
-        i += 1;
+    let mut bytes = [0u8; 8];
+    copying::copy(&src[at..at + 8], &mut bytes);
+    Set {
+        word: u64::from_be_bytes(bytes),
     }
-    Set { word }
 }

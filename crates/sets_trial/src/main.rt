@@ -65,10 +65,9 @@ fn table() {
     sets::put(&mut rows, 3, sets::from_word(9));
     text(b"table ");
     count(sets::rows(&rows));
-    set(sets::at(&rows, 0));
-    set(sets::at(&rows, 1));
-    set(sets::at(&rows, 2));
-    set(sets::at(&rows, 3));
+    for i in 0..4 {
+        set(sets::at(&rows, i));
+    }
     sets::clear(&mut rows);
     set(sets::at(&rows, 0));
     set(sets::at(&rows, 2));
@@ -98,29 +97,28 @@ fn numbers() {
     truth(sets::sized(&rows, 2));
     truth(sets::sized(&rows, 3));
     truth(sets::sized(&rows, 4));
-    sets::put_number(&mut rows, 1, 18446744073709551615);
+    sets::put_number(&mut rows, 1, u64::MAX);
     sets::put_number(&mut rows, 3, 9);
-    count(sets::number_at(&rows, 0) as usize);
-    count(sets::number_at(&rows, 1) as usize);
-    count(sets::number_at(&rows, 2) as usize);
-    count(sets::number_at(&rows, 3) as usize);
+    for i in 0..4 {
+        count(sets::number_at(&rows, i) as usize);
+    }
     end();
 }
 
-fn byte(b: u8) {
-    count(b as usize);
+// What stands in ten bytes: the set from each of four places on, the last two of which leave too few, and then the bytes.
+fn read_back(bytes: &[u8; 10]) {
+    for at in [0, 2, 3, usize::MAX] {
+        set(sets::from_bytes(bytes, at));
+    }
+    ends(bytes);
 }
 
-// What stands in ten bytes: the set from each of four places on, the last two of which leave too few, and the bytes at both ends.
-fn read_back(bytes: &[u8; 10]) {
-    set(sets::from_bytes(bytes, 0));
-    set(sets::from_bytes(bytes, 2));
-    set(sets::from_bytes(bytes, 3));
-    set(sets::from_bytes(bytes, 18446744073709551615));
-    byte(bytes[0]);
-    byte(bytes[1]);
-    byte(bytes[2]);
-    byte(bytes[9]);
+// The bytes at both ends.
+fn ends(bytes: &[u8; 10]) {
+    let [first, second, third, .., last] = *bytes;
+    for b in [first, second, third, last] {
+        count(usize::from(b));
+    }
     end();
 }
 
@@ -134,7 +132,7 @@ fn in_bytes() {
     text(b"bytes ");
     read_back(&bytes);
     sets::put_bytes(&mut bytes, 3, sets::from_word(7));
-    sets::put_bytes(&mut bytes, 18446744073709551615, sets::from_word(7));
+    sets::put_bytes(&mut bytes, usize::MAX, sets::from_word(7));
     text(b"bytes ");
     read_back(&bytes);
 }
@@ -150,30 +148,28 @@ fn none() {
 
 fn main() {
     set(sets::empty());
-    set(sets::upto(0));
-    set(sets::upto(5));
-    set(sets::upto(63));
-    set(sets::upto(64));
-    set(sets::upto(1000));
+    for p in [0, 5, 63, 64, 1000] {
+        set(sets::upto(p));
+    }
     end();
     none();
     pair(7, 14);
     pair(14, 7);
     pair(7, 7);
     pair(0, 9223372036854775808);
-    pair(18446744073709551615, 28);
+    pair(u64::MAX, 28);
     part(28, 2);
     part(28, 0);
     part(0, 5);
     part(9223372036854775809, 63);
-    part(18446744073709551615, 64);
+    part(u64::MAX, 64);
     part(1057, 1000);
     table();
     in_bytes();
     lesser(7, 14);
     lesser(7, 7);
     lesser(0, 9223372036854775808);
-    lesser(18446744073709551615, 28);
+    lesser(u64::MAX, 28);
     most();
     numbers();
 }

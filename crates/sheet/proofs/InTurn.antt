@@ -7,6 +7,11 @@ use Prim.Native.Nat.{ℕ, ◌+◌, ◌<◌, ◌≤◌}
 use native.Mathlib.Omega.{arith}
 use native.Mathlib.Numerals.{add-one}
 use Rattle.answers.specs.Verdict.{Verdict, accepted, refused, in_order}
+use Rattle.std.specs.Prelude.{Result, Ok, Err}
+use Rattle.answers.specs.declared.fault.Fault.{Fault}
+use Rattle.answers.specs.declared.fault.Fault.TheVariants.{Mark}
+use Rattle.answers.specs.Faults.{number_of}
+use Rattle.answers.specs.Model.{fault_number}
 use Rattle.answers.proofs.Laws.{order_each, order_all, order_stop}
 use Rattle.sets.specs.Value.{width, no_rows}
 use Rattle.sets.proofs.Tests.{same_or_not}
@@ -16,9 +21,14 @@ use Rattle.percolation.proofs.Accepted.{good_parts_lem}
 use Rattle.checks.specs.Neighbours.{Neighbours, last_weight}
 use Rattle.checks.specs.Model.{marked, link_number}
 use Rattle.checks.proofs.Near.{near_none, near_more, last_more}
-use Rattle.checks.proofs.Numbers.{numbered, numbered_0, numbered_not, link_says, number_parts}
+use Rattle.checks.proofs.Numbers.{numbered, numbered_0, link_says, number_parts}
 use Rattle.sheet.specs.Sheet.{list_of}
 use Rattle.sheet.proofs.Lists.{list_of_none, list_of_more}
+
+-- every fault has a number
+fault_numbered : (x : Fault) (a : ℕ) → numbered (number_of x) a ≡ refused (number_of x) a
+unfolding numbered
+fault_numbered x a = elim x as (λ y. numbered (number_of y) a ≡ refused (number_of y) a) [ Mark ↦ refl | _ ↦ refl ]
 
 -- the check of link j of those that f gives
 abbrev pub check_of : (ℕ → Link) → (ℕ → ℕ) → ℕ → ℕ → Verdict
@@ -39,22 +49,24 @@ passed_none f place p = record {
 }
 
 module _ (f : ℕ → Link) (place : ℕ → ℕ) (p j : ℕ) (R : List ℕ) (w : ℕ) (fits : p ≤ width) (k : Passed f place p j R w)
-    (l : Link) (same : l ≡ f j) (small : l.weight < 65536) (number : ℕ) (says : number ≡ link_number p R w l) where
-  spoken : check_of f place p j ≡ numbered number (place j)
+    (l : Link) (same : l ≡ f j) (small : l.weight < 65536) (r : Result Unit Fault) (says : fault_number r ≡ link_number p R w l) where
+  spoken : check_of f place p j ≡ numbered (fault_number r) (place j)
   spoken =
       ap (λ (x : Link). check_link p (list_of f j) x (place j)) (sym same)
       ∙ link_says p (list_of f j) R l (place j) fits k.near small
       ∙ ap (λ (n : ℕ). numbered n (place j)) (ap (λ (v : ℕ). link_number p R v l) (sym k.last) ∙ sym says)
 
-  -- a number that is not 0 is the first refusal
-  pub passed_stop : (m : ℕ) → j < m → (number ≡ 0 → ⊥) → in_order (check_of f place p) m ≡ refused number (place j)
-  passed_stop m h n = order_stop (check_of f place p) m j number (place j) h k.each (spoken ∙ numbered_not number (place j) n)
+  -- a fault is the first refusal
+  pub passed_stop : (x : Fault) → r ≡ Err x → (m : ℕ) → j < m → in_order (check_of f place p) m ≡ refused (number_of x) (place j)
+  passed_stop x e m h =
+      order_stop (check_of f place p) m j (number_of x) (place j) h k.each
+      (spoken ∙ ap (λ (y : Result Unit Fault). numbered (fault_number y) (place j)) e ∙ fault_numbered x (place j))
 
-  -- at 0 the link is taken in
-  pub passed_more : number ≡ 0 → Passed f place p (j + 1) (marked R l.low l.high) l.weight
+  -- where there is none the link is taken in
+  pub passed_more : r ≡ Ok tt → Passed f place p (j + 1) (marked R l.low l.high) l.weight
   unfolding in_order
-  passed_more z =
-      let g = good_parts_lem p l (number_parts p R w l (sym says ∙ z)) in
+  passed_more ok =
+      let g = good_parts_lem p l (number_parts p R w l (sym says ∙ ap fault_number ok)) in
       let more : list_of f j ++ (l ∷ []) ≡ list_of f (j + 1) = ap (λ (x : Link). list_of f j ++ (x ∷ [])) same ∙ sym (list_of_more f j) ∙ ap (list_of f) (sym (add-one j)) in
       let h : l.high < width = omega (arith, g.1) in
       record {
@@ -64,5 +76,5 @@ module _ (f : ℕ → Link) (place : ℕ → ℕ) (p j : ℕ) (R : List ℕ) (w 
       }
     where
       pick : (i : ℕ) → i < j + 1 → (i ≡ j) ⊎ (i ≡ j → ⊥) → check_of f place p i ≡ accepted
-      pick i b (inl e) = ap (check_of f place p) e ∙ spoken ∙ numbered_0 number (place j) z
+      pick i b (inl e) = ap (check_of f place p) e ∙ spoken ∙ numbered_0 (fault_number r) (place j) (ap fault_number ok)
       pick i b (inr n) = order_each (check_of f place p) j k.each i (omega arith)

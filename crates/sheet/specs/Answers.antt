@@ -1,13 +1,11 @@
 -- What each case of the sheet's answers says in document 01's numbers and values, and what is right to say of a part's name. Assumes nothing.
-use Rattle.std.specs.Prelude.{◌&&◌, [], List, ℕ, ◌+◌, leb, ltb, length}
+use Rattle.std.specs.Prelude.{◌&&◌, [], List, ℕ, ◌+◌, leb, ltb, length, Result, Ok, Err}
 use Rattle.answers.specs.Verdict.{Verdict, accepted, refused, ◌then◌, unless}
+use Rattle.answers.specs.Faults.{number_of}
+use Rattle.answers.specs.declared.Refusal.{Refusal}
 use Rattle.answers.specs.Answers.{Said, counts, refuses}
-use Rattle.percolation.specs.Links.{Link, link}
-use Rattle.sheet.specs.declared.LinkRow.{LinkRow}
-use Rattle.sheet.specs.declared.Checked.{Checked}
-use Rattle.sheet.specs.declared.Checked.TheVariants.{Fine, Faulty}
-use Rattle.sheet.specs.declared.Found.{Found}
-use Rattle.sheet.specs.declared.Found.TheVariants.{At, Missing}
+use Rattle.sheet.specs.declared.Counts.{Counts}
+use Rattle.sheet.specs.declared.PartName.{PartName}
 use Rattle.sheet.specs.Sheet.{parts, links, name_at, name_of, check_sheet}
 
 -- a sheet's part count and link count, or a refusal
@@ -15,18 +13,14 @@ pub data SheetSaid : Type 0 where
   holds : ℕ → ℕ → SheetSaid
   faulty : ℕ → ℕ → SheetSaid
 
-abbrev pub sheet_says : Checked → SheetSaid
-sheet_says (Fine p m) = holds p m
-sheet_says (Faulty n a) = faulty n a
+abbrev pub sheet_says : Result Counts Refusal → SheetSaid
+sheet_says (Ok c) = holds c.parts c.links
+sheet_says (Err r) = faulty (number_of r.fault) r.place
 
 -- what is right to say of the sheet s where the verdict is v
 unfoldable pub sheet_say : Verdict → List ℕ → SheetSaid
 sheet_say accepted s = holds (parts s) (links s)
 sheet_say (refused n a) s = faulty n a
-
--- a link as the code reads it
-abbrev pub link_row : LinkRow → Link
-link_row r = link r.low r.high r.weight
 
 -- ---- a part's name
 
@@ -41,9 +35,9 @@ unfolding unless
 check_named s part = unless (ltb part (parts s) && leb (name_at s part + 8) (length s)) 14 0
 
 -- where the name starts, or a refusal
-abbrev pub found_says : Found → Said
-found_says (At a) = counts a
-found_says (Missing n a) = refuses n a
+abbrev pub name_says : Result PartName Refusal → Said
+name_says (Ok n) = counts n.place
+name_says (Err r) = refuses (number_of r.fault) r.place
 
 -- the eight bytes of a name, or none where it is refused
 unfoldable pub name_in : Verdict → List ℕ → ℕ → List ℕ

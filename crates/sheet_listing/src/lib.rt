@@ -5,12 +5,13 @@ ghost use Rattle.std.specs.Prelude.{◌≡◌, ℕ, ◌≤◌, length, take};
 ghost use Rattle.answers.specs.Verdict.{accepted};
 ghost use Rattle.percolation.specs.Links.{heavy};
 ghost use Rattle.sheet.specs.Sheet.{parts, links, links_of};
-ghost use Rattle.runs.specs.Lent.{lent, check_call};
+ghost use Rattle.slots.specs.Lent.{tables_of, SameLent};
+ghost use Rattle.runs.specs.Lent.{check_call};
 ghost use Rattle.runs.specs.OnSheet.{count_for, MethodMeets, ListingMeets};
 
 use answers::Answer;
 use runs::Method;
-use sheet::Checked;
+use slots::Lent;
 
 // The listing of the first n links of an admitted sheet by the method's run, for each threshold t whose links these are, in tables that it leaves anyhow:
 // 15, 16.
@@ -20,23 +21,20 @@ fn run(
     n: usize,
     p: usize,
     k: usize,
-    sets: &mut [u64],
-    entries: &mut [u32],
-    smallest: &mut [u64],
-    unions: &mut [u64],
+    tables: &mut Lent,
     out: &mut [u8],
 ) -> Answer
-    requires { (check_call sheet.now k (lent sets.old entries.old smallest.old unions.old) ≡ accepted) × (p ≡ parts sheet.now) × (n ≤ links sheet.now) }
-    ensures { (t : ℕ) → take n (links_of sheet.now) ≡ heavy t (links_of sheet.now) → MethodMeets method sheet.now k t (length entries.old) out.old result out.new }
+    requires { (check_call sheet.now k (tables_of tables.old 0) ≡ accepted) × (p ≡ parts sheet.now) × (n ≤ links sheet.now) }
+    ensures lent { SameLent tables.old tables.new }
+    ensures runs { (t : ℕ) → take n (links_of sheet.now) ≡ heavy t (links_of sheet.now)
+        → MethodMeets method sheet.now k t (length tables.old.entries.now) out.old result out.new }
 {
     match method {
-        Method::Sequential => sequential_listing::list(
-            sheet, n, p, k, sets, entries, smallest, unions, out,
-        ),
+        Method::Sequential => sequential_listing::list(sheet, n, p, k, tables, out),
         Method::Maximal => {
             let rows = runs::rows_of(sheet, n);
-            let room = slots::room(entries);
-            maximal::list(&rows, p, k, sets, room, smallest, unions, out)
+            let room = tables.room();
+            maximal::list(&rows, p, k, tables, room, out)
         }
     }
 }
@@ -47,21 +45,15 @@ pub fn listing(
     sheet: &[u8],
     k: usize,
     t: u16,
-    sets: &mut [u64],
-    entries: &mut [u32],
-    smallest: &mut [u64],
-    unions: &mut [u64],
+    tables: &mut Lent,
     out: &mut [u8],
 ) -> Answer
-    ensures { ListingMeets (count_for method sheet.now k t) sheet.now k t (lent sets.old entries.old smallest.old unions.old) out.old result (lent sets.new entries.new smallest.new unions.new) out.new }
+    ensures lent { SameLent tables.old tables.new }
+    ensures meets { ListingMeets (count_for method sheet.now k t) sheet.now k t (tables_of tables.old 0) out.old result (tables_of tables.new 0) out.new }
 {
-    match runs::admit(sheet, k, sets, entries, smallest, unions) {
-        Checked::Faulty(n, a) => Answer::Refused(n, a),
-        Checked::Fine(p, m) => {
-            let n = runs::heavy(sheet, m, t);
-            let answer = run(method, sheet, n, p, k, sets, entries, smallest, unions, out);
-            runs::clear(sets, entries, smallest, unions);
-            answer
-        }
-    }
+    let counts = runs::admit(sheet, k, tables.view())?;
+    let n = runs::heavy(sheet, counts.links, t);
+    let answer = run(method, sheet, n, counts.parts, k, tables, out);
+    runs::clear(tables);
+    answer
 }

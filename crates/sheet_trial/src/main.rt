@@ -2,28 +2,24 @@
 
 // Checks, reads and writes small sheets as the script in the file stdin says, each refusal once and the orders between them, and prints what the calls answer:
 // held to the file stdout. A line's numbers are a part, or the lengths of the lent lists and of the output.
-use answers::Answer;
+use answers::{Answer, Refusal};
 use console::{STDIN, field, text};
-use sheet::{Checked, Found};
+use link_order::Links;
+use sheet::{Counts, Network};
 
-fn number(n: usize) {
-    field(b"", n);
+fn refused(r: Refusal) {
+    trial::refused(r);
     text(b" ");
 }
 
-fn refused(n: u8, place: usize) {
-    trial::refused(n, place);
-    text(b" ");
-}
-
-fn checked(c: Checked) {
+fn checked(c: Result<Counts, Refusal>) {
     match c {
-        Checked::Fine(p, m) => {
-            field(b"parts ", p);
-            field(b" links ", m);
+        Ok(counts) => {
+            field(b"parts ", counts.parts);
+            field(b" links ", counts.links);
             text(b" ");
         }
-        Checked::Faulty(n, place) => refused(n, place),
+        Err(r) => refused(r),
     }
 }
 
@@ -38,36 +34,39 @@ fn check(label: &[u8], s: &[u8]) {
 fn name(s: &[u8], part: usize) {
     field(b"name of ", part);
     text(b" ");
-    match sheet::find_name(s, part) {
-        Found::At(a) => {
-            field(b"at ", a);
+    match sheet::name(s, part) {
+        Ok(name) => {
+            field(b"at ", name.place);
             text(b" ");
-            text(sheet::name_bytes(s, part));
+            text(name.bytes);
         }
-        Found::Missing(n, place) => refused(n, place),
+        Err(r) => refused(r),
     }
     text(b"\n");
+}
+
+fn numbers<T: Copy>(l: &[T])
+where
+    usize: From<T>,
+{
+    for n in l {
+        field(b"", usize::from(*n));
+        text(b" ");
+    }
 }
 
 // ---- reading
 
-fn numbers(l: &[u16]) {
-    let mut i = 0;
-    while i < l.len() {
-        number(l[i] as usize);
-        i += 1;
-    }
-    text(b"/ ");
-}
-
-fn read(s: &[u8], n: &mut [u8], l: &mut [u16], h: &mut [u16], w: &mut [u16]) {
-    checked(sheet_reader::read(s, n, l, h, w));
-    text(n);
+fn read(s: &[u8], names: &mut [u8], links: &mut Links) {
+    checked(sheet_reader::read(s, names, links));
+    text(names);
     text(b" ");
-    numbers(l);
-    numbers(h);
-    numbers(w);
-    text(b"\n");
+    numbers(links.lower);
+    text(b"/ ");
+    numbers(links.higher);
+    text(b"/ ");
+    numbers(links.weights);
+    text(b"/ \n");
 }
 
 // A sheet read into lists of these lengths.
@@ -76,43 +75,30 @@ fn read_in(s: &[u8], n: &[usize; 8]) {
     let mut lower = [9u16; 4];
     let mut higher = [9u16; 4];
     let mut weights = [9u16; 4];
-    let a = trial::most(n[1], 32);
-    let b = trial::most(n[2], 4);
-    let c = trial::most(n[3], 4);
-    let d = trial::most(n[4], 4);
-    read(
-        s,
-        &mut names[0..a],
-        &mut lower[0..b],
-        &mut higher[0..c],
-        &mut weights[0..d],
-    );
+    let mut links = Links {
+        lower: &mut lower[..n[2].min(4)],
+        higher: &mut higher[..n[3].min(4)],
+        weights: &mut weights[..n[4].min(4)],
+    };
+    read(s, &mut names[..n[1].min(32)], &mut links);
 }
 
 // ---- writing
 
-fn bytes(out: &[u8]) {
-    let mut i = 0;
-    while i < out.len() {
-        number(out[i] as usize);
-        i += 1;
-    }
-    text(b"\n");
-}
-
 fn written(a: Answer) {
     match a {
-        Answer::Count(n) => {
+        Ok(n) => {
             field(b"bytes ", n);
             text(b" ");
         }
-        Answer::Refused(n, place) => refused(n, place),
+        Err(r) => refused(r),
     }
 }
 
-fn write(names: &[u8], l: &[u16], h: &[u16], w: &[u16], out: &mut [u8]) {
-    written(sheet_writer::write(names, l, h, w, out));
-    bytes(out);
+fn write(network: Network, out: &mut [u8]) {
+    written(sheet_writer::write(network, out));
+    numbers(out);
+    text(b"\n");
 }
 
 // A network of these name bytes, with lists and an output of these lengths.
@@ -121,31 +107,33 @@ fn write_in(names: &[u8], n: &[usize; 8]) {
     let higher: [u16; 3] = [1, 2, 2];
     let weights: [u16; 3] = [300, 300, 4];
     let mut out = [b'.'; 48];
-    let a = trial::most(n[1], 3);
-    let b = trial::most(n[2], 3);
-    let c = trial::most(n[3], 3);
-    let d = trial::most(n[4], 48);
-    write(
+    let network = Network {
         names,
-        &lower[0..a],
-        &higher[0..b],
-        &weights[0..c],
-        &mut out[0..d],
-    );
+        lower: &lower[..n[1].min(3)],
+        higher: &higher[..n[2].min(3)],
+        weights: &weights[..n[3].min(3)],
+    };
+    write(network, &mut out[..n[4].min(48)]);
 }
 
 // More links than a sheet can count: a pair stands twice.
 fn many_links() {
-    let l = [0u16; 65536];
-    let h = [1u16; 65536];
-    let w = [7u16; 65536];
+    let lower = [0u16; 65536];
+    let higher = [1u16; 65536];
+    let weights = [7u16; 65536];
     let mut out = [b'.'; 8];
-    write(b"A       B       ", &l, &h, &w, &mut out);
+    let network = Network {
+        names: b"A       B       ",
+        lower: &lower,
+        higher: &higher,
+        weights: &weights,
+    };
+    write(network, &mut out);
 }
 
 // ---- the script
 
-fn row(line: &[u8], s: &[u8]) {
+fn call(line: &[u8], s: &[u8]) {
     let n = trial::numbers(line);
     match trial::call(line) {
         b'c' => check(trial::label(line), s),
@@ -160,17 +148,12 @@ fn row(line: &[u8], s: &[u8]) {
 fn on(line: &[u8], spelled: &[u8]) {
     let mut space = [0u8; 600];
     let n = trial::spelled(spelled, &mut space);
-    row(line, &space[0..n]);
+    call(line, &space[..n]);
 }
 
 fn run(script: &[u8]) {
-    let mut row = trial::next_row(script, 0, 0);
-    while row.call < script.len() {
-        on(
-            trial::line(script, row.call),
-            trial::line(script, row.bytes),
-        );
-        row = trial::next_row(script, row.rest, row.bytes);
+    for row in trial::rows(script) {
+        on(row.line, row.bytes);
     }
 }
 

@@ -9,13 +9,14 @@ use lib.Dec.{leb}
 use lib.ListN.{length, take, drop}
 use lib.Seq.{take_at, drop_at}
 use borrow.Author.Tests.{le-leb}
-use Rattle.answers.specs.declared.Answer.{Answer}
+use Rattle.answers.specs.Answers.{Answer}
 use Rattle.answers.specs.Verdict.{Verdict, accepted, written}
 use Rattle.answers.specs.Answers.{counts, says}
 use Rattle.answers.proofs.Laws.{then_left, then_both, last_go, say_accepted, said_count, written_accepted}
 use Rattle.part_names.specs.Names.{AllDiffer}
-use Rattle.sheet.specs.declared.Checked.{Checked}
-use Rattle.sheet.specs.declared.Checked.TheVariants.{Fine}
+use Rattle.std.specs.Prelude.{Result, Ok}
+use Rattle.answers.specs.declared.Refusal.{Refusal}
+use Rattle.sheet.specs.declared.Counts.{Counts}
 use Rattle.sheet.specs.Sheet.{parts, links, check_sheet}
 use Rattle.sheet.specs.Network.{Network, network, network_of}
 use Rattle.sheet_writer.specs.Writing.{parts_of, links_in, eight_in, sheet_of, check_network, check_write, WriteMeets}
@@ -67,7 +68,7 @@ unfolding check_read
 read_passes s old ok h = then_both (check_sheet s) _ ok (last_go (room_for (parts s) (links s) old) 16 0 h)
 
 -- what `read` left in the lists is the sheet's network
-read_front : (s : List ℕ) → Bytes s → (old new : Network) (r : Checked) (p m : ℕ) → ReadMeets s old r new → r ≡ Fine p m
+read_front : (s : List ℕ) → Bytes s → (old new : Network) (r : Result Counts Refusal) (p m : ℕ) → ReadMeets s old r new → r ≡ Ok (record { parts = p; links = m })
     → (check_sheet s ≡ accepted) × (p ≡ parts_of (network_of s)) × (front p m new ≡ network_of s)
 unfolding check_read
 read_front s b old new r p m d e =
@@ -82,7 +83,7 @@ read_front s b old new r p m d e =
 -- ---- the round trips
 
 -- A sheet that `read` accepts, written again from the lists that it filled: the same bytes.
-pub read_write : (s : List ℕ) → Bytes s → (old new : Network) (r : Checked) (p m : ℕ) → ReadMeets s old r new → r ≡ Fine p m
+pub read_write : (s : List ℕ) → Bytes s → (old new : Network) (r : Result Counts Refusal) (p m : ℕ) → ReadMeets s old r new → r ≡ Ok (record { parts = p; links = m })
     → (out out' : List ℕ) (w : Answer) → WriteMeets (front p m new) out w out' → length s ≤ length out
     → (says w ≡ counts (length s)) × (out' ≡ s ++ drop (length s) out)
 read_write s b old new r p m d e out out' w d' room =
@@ -97,7 +98,7 @@ read_write s b old new r p m d e out out' w d' room =
 
 -- A network that `write` accepts, read again from the bytes that it wrote into lists with room: the same lists.
 pub write_read : (n : Network) → Held n → (out out' : List ℕ) (w : Answer) (c : ℕ) → WriteMeets n out w out' → says w ≡ counts c
-    → (old new : Network) (r : Checked) → ReadMeets (take c out') old r new → room_for (parts_of n) (links_in n) old ≡ true
+    → (old new : Network) (r : Result Counts Refusal) → ReadMeets (take c out') old r new → room_for (parts_of n) (links_in n) old ≡ true
     → (sheet_says r ≡ holds (parts_of n) (links_in n)) × Filled n old new
 unfolding check_write sheet_say
 write_read n held out out' w c d e old new r d' room =
@@ -117,7 +118,7 @@ write_read n held out out' w c d e old new r d' room =
 -- ---- no two names are equal
 
 -- of those that `read` leaves
-pub read_distinct : (s : List ℕ) → Bytes s → (old new : Network) (r : Checked) (p m : ℕ) → ReadMeets s old r new → r ≡ Fine p m
+pub read_distinct : (s : List ℕ) → Bytes s → (old new : Network) (r : Result Counts Refusal) (p m : ℕ) → ReadMeets s old r new → r ≡ Ok (record { parts = p; links = m })
     → AllDiffer (eight_in (front p m new)) p
 read_distinct s b old new r p m d e =
     let f = read_front s b old new r p m d e in

@@ -1,8 +1,8 @@
 -- What a network of the right shape is, and a sheet written in three pieces: head, names, links. Assumes nothing.
-use mathlib.Core.Path.{◌≡◌, sym, ap, ◌∙◌}
+use mathlib.Core.Path.{◌≡◌, refl, sym, ap, ◌∙◌}
 use mathlib.Core.Bool.{true, ◌&&◌}
 use mathlib.Core.List.{List, ◌++◌, append_assoc, append-nil}
-use Prim.Native.Nat.{ℕ, ◌+◌, ◌-◌, ◌%◌, ◌≤◌}
+use Prim.Native.Nat.{ℕ, ◌+◌, ◌-◌, ◌*◌, ◌/◌, ◌%◌, ◌≤◌}
 use native.Mathlib.Omega.{arith}
 use lib.Dec.{eqb}
 use lib.ListN.{length, take, drop, length-append, length-drop, drop_of_length-le}
@@ -11,9 +11,11 @@ use borrow.Author.Tests.{eqb-true}
 use Rattle.sets.proofs.Tests.{and_left, and_right}
 use Rattle.percolation.specs.Ranges.{narrow_count}
 use Rattle.percolation.proofs.Ranges.{narrow_count_lem}
+use Rattle.part_names.specs.Names.{eight_at, check_names}
+use Rattle.part_names.proofs.Form.{names_same}
 use Rattle.sheet.specs.Sheet.{sheet_length}
 use Rattle.sheet.specs.Network.{Network}
-use Rattle.sheet_writer.specs.Writing.{parts_of, links_in, link_in, head_bytes, sheet_of, has_shape}
+use Rattle.sheet_writer.specs.Writing.{parts_of, links_in, eight_in, link_in, head_bytes, sheet_of, has_shape}
 use Rattle.sheet_writer.proofs.Written.{head_bytes_lem, links_bytes, links_length}
 
 -- name bytes in eights, and three lists of one length
@@ -28,6 +30,11 @@ shape_parts n t =
 
 pub shape_most : (n : Network) → has_shape n ≡ true → narrow_count (parts_of n) ≡ true → length n.names ≤ 512
 shape_most n h g = omega (arith, (narrow_count_lem (parts_of n) g).1, (shape_parts n h).0)
+
+-- the names of a network, each told at place 0
+pub named_alike : (n : Network)
+    → check_names (λ q. eight_at n.names (8 * q)) (λ q. 0 + 0 * q) (length n.names / 8) ≡ check_names (eight_in n) (λ q. 0) (parts_of n)
+named_alike n = names_same _ _ _ _ _ (λ q h. refl) (λ q h. omega arith)
 
 -- ---- three pieces
 

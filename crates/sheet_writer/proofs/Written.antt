@@ -11,8 +11,15 @@ use Rattle.sets.proofs.SetBytes.{one_byte, two_bytes}
 use Rattle.records.proofs.Numbers.{writes_sets}
 use Rattle.records.proofs.InBytes.{record_bytes, records_none, records_more, records_length, records_stored}
 use Rattle.percolation.specs.Links.{Link, link}
+use Rattle.std.specs.Prelude.{Ok, Err}
+use Rattle.answers.specs.declared.Refusal.{Refusal}
+use Rattle.answers.specs.Answers.{Answer}
+use Rattle.answers.specs.Faults.{number_of}
+use Rattle.answers.specs.Verdict.{accepted, refused}
 use Rattle.sheet.specs.Sheet.{list_of}
-use Rattle.sheet_writer.specs.Writing.{link_bytes, head_bytes}
+use Rattle.sheet.specs.Network.{Network}
+use Rattle.sheet.proofs.Said.{refused_writes, accepted_writes}
+use Rattle.sheet_writer.specs.Writing.{link_bytes, head_bytes, sheet_of, check_write, WriteMeets}
 use Rattle.sheet.proofs.Lists.{list_of_none, list_of_more, list_of_length}
 
 -- as they are written: single bytes, then a number of two
@@ -58,3 +65,17 @@ stored_more f j d t u h e g =
     (writes_sets t u (link_bytes (f j)) (4 * j) (4 * j) refl g)
     ∙ ap₂ (λ (l : List Link) (k : ℕ). record_bytes link_bytes l ++ drop k d) (sym (list_of_more f j) ∙ ap (list_of f) (sym (add-one j)))
     (let z : 4 * j + 4 ≡ 4 * (j + 1) = omega arith in z)
+
+-- ---- what `write` answers and leaves
+
+pub write_refused : (n : Network) (old : List ℕ) (r : Answer) (x : Refusal) → r ≡ Err x → check_write n (length old) ≡ refused (number_of x.fault) x.place
+    → WriteMeets n old r old
+write_refused n old r x e f =
+    let t = refused_writes (check_write n (length old)) (length (sheet_of n)) (sheet_of n) old r x e f in
+    record { answer = t.0; bytes = t.1 }
+
+pub write_accepted : (n : Network) (old out : List ℕ) (m : ℕ) → check_write n (length old) ≡ accepted → m ≡ length (sheet_of n)
+    → out ≡ sheet_of n ++ drop (length (sheet_of n)) old → WriteMeets n old (Ok m) out
+write_accepted n old out m v e f =
+    let t = accepted_writes (check_write n (length old)) (length (sheet_of n)) m (sheet_of n) old out v e f in
+    record { answer = t.0; bytes = t.1 }

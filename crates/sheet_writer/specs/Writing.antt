@@ -3,13 +3,14 @@ use Rattle.std.specs.Prelude.{◌≡◌, Bool, ◌&&◌, ℕ, ◌*◌, ◌/◌, 
 use mathlib.Core.List.{List, ◌∷◌, ◌++◌, map, flatten}
 use Rattle.answers.specs.Verdict.{Verdict, ◌then◌, unless, in_order, written}
 use Rattle.answers.specs.Answers.{says, say_of}
-use Rattle.answers.specs.declared.Answer.{Answer}
+use Rattle.answers.specs.Answers.{Answer}
 use Rattle.sets.specs.Value.{bytes}
 use Rattle.percolation.specs.Links.{Link, link}
 use Rattle.percolation.specs.Ranges.{narrow_count}
 use Rattle.percolation.specs.Steps.{check_link}
 use Rattle.part_names.specs.Names.{eight_at, check_names}
 use Rattle.sheet.specs.Sheet.{list_of}
+use Rattle.sheet.specs.declared.Network.{Network as Lent}
 use Rattle.sheet.specs.Network.{Network}
 
 abbrev pub parts_of : Network → ℕ
@@ -44,6 +45,10 @@ sheet_of n = head_bytes (parts_of n) (links_in n) ++ n.names ++ flatten (map lin
 -- name bytes in eights, and lists of one length
 unfoldable pub has_shape : Network → Bool
 has_shape n = eqb (length n.names % 8) 0 && (eqb (length n.higher) (links_in n) && eqb (length n.weights) (links_in n))
+
+-- the three lists that a call is lent have one length
+abbrev pub SameLength : Lent → Type 0
+SameLength n = (length n.higher.now ≡ length n.lower.now) × (length n.weights.now ≡ length n.lower.now)
 
 unfoldable pub check_link_in : Network → ℕ → Verdict
 unfolding list_of link_in check_link

@@ -1,101 +1,105 @@
 #![tactic(auto)]
 
 // The writer of a link sheet: a network's lists into lent bytes.
-ghost use Rattle.std.specs.Prelude.{◌≡◌, ◌+◌, ◌*◌, ◌<◌, ◌≤◌, length, drop};
-ghost use mathlib.Core.List.{[], ◌++◌, map, flatten};
+ghost use Rattle.std.specs.Prelude.{◌≡◌, ◌+◌, ◌*◌, ◌<◌, ◌≤◌, length, drop, IsTrue};
+ghost use mathlib.Core.List.{◌++◌, map, flatten};
 ghost use Rattle.std.proofs.lemmas.List.Edits.{sets};
 ghost use Rattle.answers.specs.Verdict.{in_order};
-ghost use Rattle.sets.specs.Value.{width};
-ghost use Rattle.percolation.specs.Links.{link};
-ghost use Rattle.sheet.specs.Sheet.{head_length, sheet_length, list_of};
-ghost use Rattle.sheet.specs.Network.{network};
 ghost use Rattle.answers.specs.Model.{verdict};
-ghost use Rattle.sheet_writer.specs.Writing.{link_in, link_bytes, head_bytes, sheet_of, has_shape, check_link_in, check_network, WriteMeets};
+ghost use Rattle.checks.specs.Model.{link_row};
+ghost use Rattle.sets.specs.Value.{width};
+ghost use Rattle.sheet.specs.Lent.{network_in};
+ghost use Rattle.sheet.specs.Sheet.{head_length, sheet_length, list_of};
+ghost use Rattle.sheet_writer.specs.Writing.{
+  link_in,
+  links_in,
+  link_bytes,
+  head_bytes,
+  sheet_of,
+  has_shape,
+  check_link_in,
+  check_network,
+  SameLength,
+  WriteMeets,
+};
 
-use answers::{Answer, Tried};
+use answers::{Answer, Fault, Refusal};
+use checks::LinkRow;
+use sheet::Network;
 
-fn wide(w: u16) -> usize
-    ensures { (result ≡ w) × (result < 65536) }
+#[tactic(auto, unfolding(crate::specs::Writing::has_shape))]
+fn has_shape(network: Network) -> bool
+    ensures value { result ≡ has_shape (network_in network.entry) }
+    ensures shape { IsTrue result → SameLength network.entry }
 {
-    w as usize
+    network.names.len() % 8 == 0
+        && (network.higher.len() == network.lower.len()
+            && network.weights.len() == network.lower.len())
 }
 
-fn has_shape(names: &[u8], lower: &[u16], higher: &[u16], weights: &[u16]) -> bool
-    ensures { result ≡ has_shape (network names.now lower.now higher.now weights.now) }
+// Link j.
+#[tactic(auto, unfolding(crate::specs::Writing::link_in))]
+fn link(network: Network, j: usize) -> LinkRow
+    requires { (j < length network.lower.now) × SameLength network }
+    ensures { (link_row result ≡ link_in (network_in network.entry) j) × (result.weight < 65536) }
 {
-    if names.len() % 8 != 0 {
-        return false;
+    LinkRow {
+        low: usize::from(network.lower[j]),
+        high: usize::from(network.higher[j]),
+        weight: usize::from(network.weights[j]),
     }
-    if higher.len() != lower.len() {
-        return false;
-    }
-    weights.len() == lower.len()
 }
 
-// 6 to 9 of a network, links in order.
-fn network_links(names: &[u8], lower: &[u16], higher: &[u16], weights: &[u16]) -> Tried
-    requires { (length names.now ≤ 8 * width) × ((length higher.now ≡ length lower.now) × (length weights.now ≡ length lower.now)) }
-    ensures { verdict result ≡ in_order (check_link_in (network names.now lower.now higher.now weights.now)) (length lower.now) }
+// 6 to 9 of a network, links in order. The loop of sheet over again: one for both would take two closures and ghost functions for what they give.
+fn network_links(network: Network) -> Result<(), Refusal>
+    requires { (length network.names.now ≤ 8 * width) × SameLength network }
+    ensures { verdict result ≡ in_order (check_link_in (network_in network.entry)) (links_in (network_in network.entry)) }
 {
-    let p = names.len() / 8;
+    let p = network.names.len() / 8;
     let mut seen = sets::no_rows();
     let mut before = 65535;
-    let mut j = 0;
-    while j < lower.len() {
-        let low = wide(lower[j]);
-        let high = wide(higher[j]);
-        let weight = wide(weights[j]);
-        let number = checks::link_number(&seen, p, low, high, weight, before);
-        if number != 0 {
-            return Tried::Stop(number, 0);
-        }
-        checks::add_link(&mut seen, low, high);
-        before = weight;
-        j += 1;
+    for j in 0..network.lower.len() {
+        let l = link(network, j);
+        checks::check_link(&seen, p, l, before)?;
+        checks::add_link(&mut seen, l.low, l.high);
+        before = l.weight;
     }
-    Tried::Pass
+    Ok(())
 }
 
 // 3 to 9 and 21 of a network.
-fn check_network(names: &[u8], lower: &[u16], higher: &[u16], weights: &[u16]) -> Tried
-    ensures { verdict result ≡ check_network (network names.now lower.now higher.now weights.now) }
+#[tactic(auto, using(sheet::proofs::Said::in_turn, crate::proofs::Shape::named_alike), unfolding(crate::specs::Writing::check_network))]
+fn check_network(network: Network) -> Result<(), Refusal>
+    ensures { verdict result ≡ check_network (network_in network.entry) }
 {
-    if !has_shape(names, lower, higher, weights) {
-        return Tried::Stop(3, 0);
-    }
-    let p = names.len() / 8;
-    if !checks::narrow_count(p) {
-        return Tried::Stop(4, 0);
-    }
-    if let Tried::Stop(n, a) = part_names::test(names, p, 0, 0) {
-        return Tried::Stop(n, a);
-    }
-    network_links(names, lower, higher, weights)
+    answers::require(has_shape(network), Fault::Length, 0)?;
+    let p = network.names.len() / 8;
+    answers::require(checks::narrow_count(p), Fault::PartCount, 0)?;
+    part_names::test(network.names, p, 0, 0)?;
+    network_links(network)
 }
 
 // Writes the four bytes of a link at k.
-fn put_link(out: &mut [u8], k: usize, low: usize, high: usize, weight: usize)
+#[tactic(auto, using(crate::proofs::Written::link_put))]
+fn put_link(out: &mut [u8], k: usize, link: LinkRow)
     requires { k + 4 ≤ length out.old }
-    ensures { out.new ≡ sets out.old k (link_bytes (link low high weight)) }
+    ensures { out.new ≡ sets out.old k (link_bytes (link_row link)) }
 {
-    out[k] = (low % 256) as u8;
-    out[k + 1] = (high % 256) as u8;
-    records::put_two(out, k + 2, weight);
+    out[k] = (link.low % 256) as u8;
+    out[k + 1] = (link.high % 256) as u8;
+    records::put_two(out, k + 2, link.weight);
 }
 
 // Writes the links' bytes to the start of out.
-fn put_links(lower: &[u16], higher: &[u16], weights: &[u16], out: &mut [u8])
-    requires { ((length higher.now ≡ length lower.now) × (length weights.now ≡ length lower.now)) × (4 * length lower.now ≤ length out.old) }
-    ensures { out.new ≡ flatten (map link_bytes (list_of (link_in (network [] lower.now higher.now weights.now)) (length lower.now))) ++ drop (4 * length lower.now) out.old }
+#[tactic(auto, using(crate::proofs::Written::stored_none, crate::proofs::Written::stored_more))]
+fn put_links(network: Network, out: &mut [u8])
+    requires shape { SameLength network }
+    requires room { 4 * length network.lower.now ≤ length out.old }
+    ensures { let m = length network.entry.lower.now in out.new ≡ flatten (map link_bytes (list_of (link_in (network_in network.entry)) m)) ++ drop (4 * m) out.old }
 {
-    let count = lower.len();
-    let mut j = 0;
-    while j < count {
-        let low = wide(lower[j]);
-        let high = wide(higher[j]);
-        let weight = wide(weights[j]);
-        put_link(out, 4 * j, low, high, weight);
-        j += 1;
+    let count = network.lower.len();
+    for j in 0..count {
+        put_link(out, 4 * j, link(network, j));
     }
 }
 
@@ -113,32 +117,27 @@ fn put_head(out: &mut [u8], p: usize, m: usize)
 }
 
 // Writes a network's sheet to the start of out.
-fn put_sheet(names: &[u8], lower: &[u16], higher: &[u16], weights: &[u16], out: &mut [u8])
-    requires higher_len { (length higher.now ≡ length lower.now) × (length weights.now ≡ length lower.now) }
-    requires lower_in_bounds { sheet_length (length names.now) (length lower.now) ≤ length out.old }
-    ensures { out.new ≡ sheet_of (network names.now lower.now higher.now weights.now) ++ drop (sheet_length (length names.now) (length lower.now)) out.old }
+fn put_sheet(network: Network, out: &mut [u8])
+    requires higher_len { SameLength network }
+    requires lower_in_bounds { sheet_length (length network.names.now) (length network.lower.now) ≤ length out.old }
+    ensures { out.new ≡ sheet_of (network_in network.entry) ++ drop (sheet_length (length network.entry.names.now) (length network.entry.lower.now)) out.old }
 {
-    let k = names.len();
-    put_head(out, k / 8, lower.len());
+    let k = network.names.len();
+    put_head(out, k / 8, network.lower.len());
     let first = sheet::head_length();
     let at = first + k;
-    copying::copy(names, &mut out[first..at]);
-    put_links(lower, higher, weights, &mut out[at..]);
+    copying::copy(network.names, &mut out[first..at]);
+    put_links(network, &mut out[at..]);
 }
 
 // Writes a network as a sheet, to the start of out: 3 to 9 and 21, then 16, all with place 0. The count is that of the bytes.
-pub fn write(names: &[u8], lower: &[u16], higher: &[u16], weights: &[u16], out: &mut [u8]) -> Answer
-    ensures { WriteMeets (network names.now lower.now higher.now weights.now) out.old result out.new }
+#[tactic(auto, using(sheet::proofs::Said::in_turn), unfolding(crate::specs::Writing::check_write))]
+pub fn write(network: Network, out: &mut [u8]) -> Answer
+    ensures { WriteMeets (network_in network.entry) out.old result out.new }
 {
-    match check_network(names, lower, higher, weights) {
-        Tried::Stop(n, a) => Answer::Refused(n, a),
-        Tried::Pass => {
-            let size = sheet::sheet_length(names.len(), lower.len());
-            if out.len() < size {
-                return Answer::Refused(16, 0);
-            }
-            put_sheet(names, lower, higher, weights, out);
-            Answer::Count(size)
-        }
-    }
+    check_network(network)?;
+    let size = sheet::sheet_length(network.names.len(), network.lower.len());
+    answers::require(size <= out.len(), Fault::Space, 0)?;
+    put_sheet(network, out);
+    Ok(size)
 }

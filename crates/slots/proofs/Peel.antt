@@ -2,7 +2,7 @@
 use mathlib.Core.Path.{◌≡◌, sym, ap, ap₂, ◌∙◌}
 use mathlib.Core.Bool.{Bool, true, false, cond}
 use mathlib.Core.Logic.{◌⊎◌, inl, inr}
-use mathlib.Core.List.{List}
+use mathlib.Core.List.{List, [], ◌∷◌}
 use Prim.Native.Nat.{ℕ, ◌<◌, ◌^◌}
 use borrow.Author.Tests.{eqb-true, eqb-false}
 use lib.Dec.{eqb}
@@ -25,6 +25,15 @@ peeled n q s e d = d ∙ go (split (eqb n 0))
     go : (eqb n 0 ≡ true) ⊎ (eqb n 0 ≡ false) → out q n ≡ out (lowest n) n
     go (inl t) = let none : (r : ℕ) → has r n ≡ false = λ r. ap (has r) (eqb-true n 0 t) ∙ has_empty r in out_old q n (none q) ∙ sym (out_old (lowest n) n (none (lowest n)))
     go (inr t) = ap (λ (x : ℕ). out x n) (answer_is n q t e)
+
+-- one part more, and none
+pub took_more : (f Q q : ℕ) (l m : List ℕ) (T U : Tables) → l ≡ q ∷ m → U ≡ took_part f Q q T → took_parts f Q l T ≡ took_parts f Q m U
+unfolding took_parts
+took_more f Q q l m T U e p = rw (e, p)
+
+pub took_none : (f Q : ℕ) (l : List ℕ) (T : Tables) → l ≡ [] → took_parts f Q l T ≡ T
+unfolding took_parts
+took_none f Q l T e = rw e
 
 pub peel_end : (f Q n : ℕ) (T : Tables) → eqb n 0 ≡ true → took_parts f Q (members width n) T ≡ T
 unfolding took_parts

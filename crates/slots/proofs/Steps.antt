@@ -60,8 +60,7 @@ took_part_lem T W f Q q s i d at e = e ∙ ap₂ (λ (P : Tables) (x : ℕ). joi
 
 -- ---- the community has the clique
 
-pub touch_is : (T : Tables) (f Q r a b m u : ℕ) {ms us : List ℕ} → f < T.used → r ≡ root_of T.entries f
-    → a ≡ row T.smallest r → m ≡ lesser a Q → ms ≡ store T.smallest r m
-    → b ≡ row T.unions r → u ≡ union b Q → us ≡ store T.unions r u
+pub touch_is : (T : Tables) (f Q r : ℕ) {ms us : List ℕ} → f < T.used → r ≡ root_of T.entries f
+    → ms ≡ store T.smallest r (lesser (row T.smallest r) Q) → us ≡ store T.unions r (union (row T.unions r) Q)
     → tables T.sets T.entries ms us T.used ≡ touched T f Q
-touch_is T f Q r a b m u h p c d e g k l = rw (e, d, c, l, k, g, p) (sym (touched_used T f Q h))
+touch_is T f Q r h p m u = rw (m, u, p) (sym (touched_used T f Q h))

@@ -1,27 +1,72 @@
 #![tactic(auto)]
 
 // The four lent tables of the sequential run: slots found, placed and joined.
-ghost use Rattle.std.specs.Prelude.{◌≡◌, List, length, ℕ, ◌<◌, ◌^◌, min, max};
-ghost use Rattle.sets.specs.Sets.{union, out, lesser, lowest};
+ghost use Rattle.std.specs.Prelude.{◌≡◌, length, ℕ, ◌<◌, ◌^◌};
+ghost use Rattle.sets.specs.declared.Set.{Set};
+ghost use Rattle.sets.specs.Sets.{out, lowest};
 ghost use Rattle.sets.specs.Value.{num, store, number_at};
 ghost use Rattle.percolation.specs.Ranges.{most_slots};
-ghost use Rattle.slots.specs.Tables.{tables, room};
+ghost use Rattle.slots.specs.Tables.{room};
+ghost use Rattle.slots.specs.Lent.{tables_of, tables_in, SameLent};
 ghost use Rattle.slots.specs.Model.{find, merged, joined, placed};
 
 use sets::Set;
+
+// The four lent tables: a set, a joining entry, a smallest clique and a union for each slot.
+#[derive(Drop)]
+pub struct Lent<'a> {
+    pub sets: &'a mut [u64],
+    pub entries: &'a mut [u32],
+    pub smallest: &'a mut [u64],
+    pub unions: &'a mut [u64],
+}
+
+// The same, only to be read.
+#[derive(Clone, Copy)]
+pub struct View<'a> {
+    pub sets: &'a [u64],
+    pub entries: &'a [u32],
+    pub smallest: &'a [u64],
+    pub unions: &'a [u64],
+}
+
+impl Lent<'_> {
+    pub fn view(&self) -> View<'_>
+        ensures { (used : ℕ) → tables_in result used ≡ tables_of self.now used }
+    {
+        View {
+            sets: self.sets,
+            entries: self.entries,
+            smallest: self.smallest,
+            unions: self.unions,
+        }
+    }
+
+    // As find, of the lent sets.
+    pub fn find(&self, used: usize, s: Set) -> usize
+        ensures { result ≡ find self.now.sets.now used (num s) }
+    {
+        find(self.sets, used, s)
+    }
+
+    // As room, of the lent entries.
+    pub fn room(&self) -> usize
+        ensures { result ≡ room self.now.entries.now }
+    {
+        room(self.entries)
+    }
+}
 
 // The used slot that holds s; where there is none, the first that is not used.
 pub fn find(sets: &[u64], used: usize, s: Set) -> usize
     ensures { result ≡ find sets.now used (num s) }
 {
-    let mut slot = 0;
-    while slot < used {
+    for slot in 0..used {
         if sets::same(sets::at(sets, slot), s) {
             return slot;
         }
-        slot += 1;
     }
-    slot
+    used
 }
 
 // The slot of s less its lowest part.
@@ -31,46 +76,29 @@ pub fn slot_of(sets: &[u64], used: usize, s: Set) -> usize
     find(sets, used, sets::without(s, sets::lowest(s)))
 }
 
-fn lower(a: usize, b: usize) -> usize
-    ensures { result ≡ min a b }
+// Row lo becomes f of rows lo and hi.
+fn merge<F: Fn(Set, Set) -> Set>(table: &mut [u64], lo: usize, hi: usize, f: F)
+    requires { F.IsAlwaysCallable f }
+    ensures { (g : ℕ → ℕ → ℕ) → ((s t u : Set) → F.post f s t u → num u ≡ g (num s) (num t)) → table.new ≡ merged g table.old lo hi }
 {
-    if a < b { a } else { b }
-}
-
-fn higher(a: usize, b: usize) -> usize
-    ensures { result ≡ max a b }
-{
-    if a < b { b } else { a }
-}
-
-// Row lo becomes the lesser of rows lo and hi, or the union of both.
-fn merge_lesser(table: &mut [u64], lo: usize, hi: usize)
-    ensures { table.new ≡ merged lesser table.old lo hi }
-{
-    let s = sets::lesser(sets::at(table, lo), sets::at(table, hi));
-    sets::put(table, lo, s);
-}
-
-fn merge_union(table: &mut [u64], lo: usize, hi: usize)
-    ensures { table.new ≡ merged union table.old lo hi }
-{
-    let s = sets::union(sets::at(table, lo), sets::at(table, hi));
+    let s = f(sets::at(table, lo), sets::at(table, hi));
     sets::put(table, lo, s);
 }
 
 // Makes the classes of slots i and j one, whatever the slots hold: the lower root stays one, and gets the lesser smallest clique and the union of
 // both. For sister crates: both slots are used.
-pub fn join(entries: &mut [u32], smallest: &mut [u64], unions: &mut [u64], i: usize, j: usize)
-    requires { (i < length entries.old) × (j < length entries.old) × (i < 2 ^ 32) }
-    ensures { (s : List ℕ) (n : ℕ) → tables s entries.new smallest.new unions.new n ≡ joined (tables s entries.old smallest.old unions.old n) i j }
+pub fn join(tables: &mut Lent, i: usize, j: usize)
+    requires { (i < length tables.old.entries.now) × (j < length tables.old.entries.now) × (i < 2 ^ 32) }
+    ensures lent { SameLent tables.old tables.new }
+    ensures tables_after { (used : ℕ) → tables_of tables.new used ≡ joined (tables_of tables.old used) i j }
 {
-    let a = joining::halve(entries, i);
-    let b = joining::halve(entries, j);
-    let lo = lower(a, b);
-    let hi = higher(a, b);
-    entries[hi] = lo as u32;
-    merge_lesser(smallest, lo, hi);
-    merge_union(unions, lo, hi);
+    let a = joining::halve(tables.entries, i);
+    let b = joining::halve(tables.entries, j);
+    let lo = a.min(b);
+    let hi = a.max(b);
+    tables.entries[hi] = lo as u32;
+    merge(tables.smallest, lo, hi, sets::lesser);
+    merge(tables.unions, lo, hi, sets::union);
 }
 
 // However long the tables are, no more slots are used.
@@ -84,34 +112,26 @@ pub fn most_slots() -> usize
 pub fn room(entries: &[u32]) -> usize
     ensures { result ≡ room entries.now }
 {
-    lower(entries.len(), most_slots())
+    entries.len().min(most_slots())
 }
 
 // A slot for s, a part of the clique q, where i is what find says of s: the one that holds it, else a new one, of a class of its own, where
 // there is room. Gives how many slots are used then. For sister crates: i is found first.
-pub fn place(
-    sets: &mut [u64],
-    entries: &mut [u32],
-    smallest: &mut [u64],
-    unions: &mut [u64],
-    used: usize,
-    i: usize,
-    s: Set,
-    q: Set,
-) -> usize
-    requires { i ≡ find sets.old used (num s) }
-    ensures { tables sets.new entries.new smallest.new unions.new result ≡ placed (tables sets.old entries.old smallest.old unions.old used) (num s) (num q) }
+pub fn place(tables: &mut Lent, used: usize, i: usize, s: Set, q: Set) -> usize
+    requires { i ≡ find tables.old.sets.now used (num s) }
+    ensures lent { SameLent tables.old tables.new }
+    ensures tables_after { tables_of tables.new result ≡ placed (tables_of tables.old used) (num s) (num q) }
 {
     if i < used {
         return used;
     }
-    if room(entries) <= used {
+    if tables.room() <= used {
         return used;
     }
-    sets::put(sets, used, s);
-    entries[used] = used as u32;
-    sets::put(smallest, used, q);
-    sets::put(unions, used, q);
+    sets::put(tables.sets, used, s);
+    tables.entries[used] = used as u32;
+    sets::put(tables.smallest, used, q);
+    sets::put(tables.unions, used, q);
     used + 1
 }
 

@@ -7,6 +7,9 @@ use native.Mathlib.Omega.{arith}
 use lib.Dec.{leb}
 use lib.ListN.{length, get_or}
 use borrow.Author.Tests.{leb-true, le-leb, lt-leb, eqb-true, eq-eqb, ne_eqb}
+use Rattle.answers.specs.Faults.{number_of}
+use Rattle.answers.specs.declared.fault.Fault.{Fault}
+use Rattle.answers.specs.declared.fault.Fault.TheVariants.{Mark}
 use Rattle.sets.specs.Lists.{all, below}
 use Rattle.sets.specs.Value.{width}
 use Rattle.sets.proofs.Tests.{and_left, and_right, and_stop, and_go}
@@ -16,10 +19,12 @@ use Rattle.percolation.proofs.Ranges.{good_count_lem, good_k_lem}
 use Rattle.percolation.proofs.Accepted.{good_parts_lem}
 use Rattle.checks.specs.Model.{link_number}
 use Rattle.checks.proofs.Numbers.{number_parts}
-use Rattle.slots.specs.Tables.{Tables, tables, room}
+use Rattle.slots.specs.Tables.{Tables, room}
+use Rattle.slots.specs.declared.View.{View}
+use Rattle.slots.specs.Lent.{tables_in}
 use Rattle.slots.proofs.Lengths.{room_within}
 use Rattle.search.specs.Model.{cap, added_by}
-use Rattle.runs.specs.Lent.{lent, level}
+use Rattle.runs.specs.Lent.{level}
 use Rattle.runs.proofs.Left.{level_used}
 use Rattle.journal.specs.Journal.{journal_length, whole}
 use Rattle.states.specs.declared.State.{State}
@@ -41,6 +46,10 @@ pub first_0 : (n m : ℕ) → first_of n m ≡ 0 → (n ≡ 0) × (m ≡ 0)
 unfolding first_of
 first_0 zero m e = (refl, e)
 first_0 (suc n) m e = let z : ⊥ = omega arith in absurd z
+
+-- a fault's number is none
+pub faulted : (f : Fault) → number_of f ≡ 0 → ⊥
+faulted f = elim f as (λ (g : Fault). number_of g ≡ 0 → ⊥) [ Mark ↦ λ e. omega arith | _ ↦ λ e. omega arith ]
 
 -- ---- 12
 
@@ -82,21 +91,24 @@ module _ (S : State) (es : List ℕ) where
 
 -- ---- 11, 12
 
-module _ (S : State) (s e m u : List ℕ) where
+module _ (S : State) (v : View) where
   abbrev T : Tables
-  T = tables s e m u S.used
+  T = tables_in v S.used
 
-  pub state_11 : level (lent s e m u) ≡ false → 11 ≡ state_number S T
-  unfolding state_number
-  state_11 l = rw (level_used s e m u S.used ∙ l) refl
+  used_level : level T ≡ level (tables_in v 0)
+  used_level = level_used v.sets.now v.entries.now v.smallest.now v.unions.now S.used
 
-  pub state_12 : level (lent s e m u) ≡ true → good_state S e ≡ false → 12 ≡ state_number S T
+  pub state_11 : level (tables_in v 0) ≡ false → 11 ≡ state_number S T
   unfolding state_number
-  state_12 l g = rw (level_used s e m u S.used ∙ l, g) refl
+  state_11 l = rw (used_level ∙ l) refl
 
-  pub state_0 : level (lent s e m u) ≡ true → good_state S e ≡ true → 0 ≡ state_number S T
+  pub state_12 : level (tables_in v 0) ≡ true → good_state S v.entries.now ≡ false → 12 ≡ state_number S T
   unfolding state_number
-  state_0 l g = rw (level_used s e m u S.used ∙ l, g) refl
+  state_12 l g = rw (used_level ∙ l, g) refl
+
+  pub state_0 : level (tables_in v 0) ≡ true → good_state S v.entries.now ≡ true → 0 ≡ state_number S T
+  unfolding state_number
+  state_0 l g = rw (used_level ∙ l, g) refl
 
 -- a state with number 0 is a good one
 pub state_good : (S : State) (T : Tables) → state_number S T ≡ 0 → good_state S T.entries ≡ true
@@ -117,9 +129,9 @@ module _ (S : State) (es : List ℕ) (l : Link) where
   abbrev more : ℕ
   more = added_by S.rows S.k l.low l.high
 
-  pub step_stop : (n : ℕ) → n ≡ number → (n ≡ 0 → ⊥) → n ≡ link_step S es l
+  pub step_stop : (f : Fault) → number_of f ≡ number → number_of f ≡ link_step S es l
   unfolding link_step
-  step_stop n e h = e ∙ sym (first_stop number _ (λ z. h (e ∙ z)))
+  step_stop f e = e ∙ sym (first_stop number _ (λ z. faulted f (e ∙ z)))
 
   -- a count that stops at the cap decides as the whole count does, since there is less room
   pub step_15 : number ≡ 0 → (a : ℕ) → a ≡ min more cap → room es - S.used < a → 15 ≡ link_step S es l
@@ -140,9 +152,9 @@ module _ (S : State) (es : List ℕ) (l : Link) where
 -- ---- 11, 12, then 20
 
 module _ (S : State) (T : Tables) (J : List ℕ) where
-  pub journal_stop : (n : ℕ) → n ≡ state_number S T → (n ≡ 0 → ⊥) → n ≡ journal_number S T J
+  pub journal_stop : (f : Fault) → number_of f ≡ state_number S T → number_of f ≡ journal_number S T J
   unfolding journal_number
-  journal_stop n e h = e ∙ sym (first_stop (state_number S T) _ (λ z. h (e ∙ z)))
+  journal_stop f e = e ∙ sym (first_stop (state_number S T) _ (λ z. faulted f (e ∙ z)))
 
   module _ (z : state_number S T ≡ 0) where
     pub journal_20 : whole J ≡ false → 20 ≡ journal_number S T J
@@ -169,18 +181,18 @@ module _ (S : State) (T : Tables) (J : List ℕ) where
 -- ---- then the rest
 
 module _ (S : State) (T : Tables) (J : List ℕ) (l : Link) where
-  pub number_stop : (n : ℕ) → n ≡ journal_number S T J → (n ≡ 0 → ⊥) → n ≡ insert_number S T J l
+  pub number_stop : (f : Fault) → number_of f ≡ journal_number S T J → number_of f ≡ insert_number S T J l
   unfolding insert_number
-  number_stop n e h = e ∙ sym (first_stop (journal_number S T J) _ (λ z. h (e ∙ z)))
+  number_stop f e = e ∙ sym (first_stop (journal_number S T J) _ (λ z. faulted f (e ∙ z)))
 
   pub number_go : (n : ℕ) → journal_number S T J ≡ 0 → n ≡ link_step S T.entries l → n ≡ insert_number S T J l
   unfolding insert_number
   number_go n z e = e ∙ sym (first_go (journal_number S T J) _ z)
 
 module _ (S : State) (T : Tables) (J : List ℕ) where
-  pub back_stop : (n : ℕ) → n ≡ journal_number S T J → (n ≡ 0 → ⊥) → n ≡ back_number S T J
+  pub back_stop : (f : Fault) → number_of f ≡ journal_number S T J → number_of f ≡ back_number S T J
   unfolding back_number
-  back_stop n e h = e ∙ sym (first_stop (journal_number S T J) _ (λ z. h (e ∙ z)))
+  back_stop f e = e ∙ sym (first_stop (journal_number S T J) _ (λ z. faulted f (e ∙ z)))
 
   module _ (z : journal_number S T J ≡ 0) where
     pub back_19 : S.links ≡ 0 → 19 ≡ back_number S T J

@@ -1,13 +1,18 @@
 #![tactic(auto)]
 
-// The state of a sequential run, and what its steps test before they write: the number of the first test that fails, or 0.
+// The state of a sequential run, and what its steps test before they write.
 ghost use Rattle.std.specs.Prelude.{◌≡◌, ◌≤◌};
-ghost use Rattle.percolation.specs.Links.{link};
-ghost use Rattle.slots.specs.Tables.{tables, room};
+ghost use Rattle.answers.specs.Model.{fault_number};
+ghost use Rattle.slots.specs.Tables.{room};
+ghost use Rattle.slots.specs.Lent.{tables_in};
+ghost use Rattle.journal.specs.Link.{as_link};
 ghost use Rattle.states.specs.States.{good_state};
 ghost use Rattle.states.specs.Model.{state_number, link_step, journal_number, insert_number, back_number};
 
+use answers::Fault;
+use journal::Link;
 use sets::Rows;
+use slots::View;
 
 // What goes from step to step beside tables and journal: p, k, how many slots are used, the last weight (65,535 with no link), how many links remain, and
 // the neighbours of each part.
@@ -38,101 +43,59 @@ fn good_state(state: State, entries: &[u32]) -> bool
     joining::steady(entries, state.used)
 }
 
-// The first of 11 and 12 that applies to a state and its tables, or 0.
-pub fn state_number(
-    state: State,
-    sets: &[u64],
-    entries: &[u32],
-    smallest: &[u64],
-    unions: &[u64],
-) -> u8
-    ensures { result ≡ state_number state (tables sets.now entries.now smallest.now unions.now state.used) }
+// The first of 11 and 12 that applies to a state and its tables.
+pub fn check_state(state: State, tables: View) -> Result<(), Fault>
+    ensures { fault_number result ≡ state_number state (tables_in tables.entry state.used) }
 {
-    if !runs::level(sets, entries, smallest, unions) {
-        return 11;
+    if !runs::level(tables) {
+        return Err(Fault::Tables);
     }
-    if !good_state(state, entries) {
-        return 12;
+    if !good_state(state, tables.entries) {
+        return Err(Fault::State);
     }
-    0
+    Ok(())
 }
 
-// The first of 6 to 9 and 15 that applies to a link, or 0. 15 counts by the rows alone, before a table is written.
-fn link_step(state: State, entries: &[u32], low: usize, high: usize, weight: u16) -> u8
+// The first of 6 to 9 and 15 that applies to a link. 15 counts by the rows alone, before a table is written.
+fn check_link(state: State, entries: &[u32], link: Link) -> Result<(), Fault>
     requires { (2 ≤ state.k) × (state.used ≤ room entries.now) }
-    ensures { result ≡ link_step state entries.now (link low high weight) }
+    ensures { fault_number result ≡ link_step state entries.now (as_link link) }
 {
     let rows = state.rows;
-    let n = checks::link_number(&rows, state.p, low, high, weight as usize, state.last);
-    if n != 0 {
-        return n;
-    }
-    let more = search::new_slots(&rows, state.k, low, high);
+    checks::check_link(&rows, state.p, link.into(), state.last)?;
+    let more = search::new_slots(&rows, state.k, link.low, link.high);
     if slots::room(entries) - state.used < more {
-        return 15;
+        return Err(Fault::Slots);
     }
-    0
+    Ok(())
 }
 
-// The first of 11, 12 and 20 that applies to a state, its tables and its journal, or 0.
-fn journal_number(
-    state: State,
-    sets: &[u64],
-    entries: &[u32],
-    smallest: &[u64],
-    unions: &[u64],
-    journal: &[u64],
-) -> u8
-    ensures { result ≡ journal_number state (tables sets.now entries.now smallest.now unions.now state.used) journal.now }
+// The first of 11, 12 and 20 that applies to a state, its tables and its journal.
+fn check_journal(state: State, tables: View, journal: &[u64]) -> Result<(), Fault>
+    ensures { fault_number result ≡ journal_number state (tables_in tables.entry state.used) journal.now }
 {
-    let n = state_number(state, sets, entries, smallest, unions);
-    if n != 0 {
-        return n;
-    }
+    check_state(state, tables)?;
     if !journal::whole(journal) {
-        return 20;
+        return Err(Fault::Journal);
     }
-    0
+    Ok(())
 }
 
-// The first of 11, 12, 20, 6 to 9 and 15 that applies to an insert, or 0.
-pub fn insert_number(
-    state: State,
-    sets: &[u64],
-    entries: &[u32],
-    smallest: &[u64],
-    unions: &[u64],
-    journal: &[u64],
-    low: usize,
-    high: usize,
-    weight: u16,
-) -> u8
-    ensures { result ≡ insert_number state (tables sets.now entries.now smallest.now unions.now state.used) journal.now (link low high weight) }
+// The first of 11, 12, 20, 6 to 9 and 15 that applies to an insert.
+pub fn check_insert(state: State, tables: View, journal: &[u64], link: Link) -> Result<(), Fault>
+    ensures { fault_number result ≡ insert_number state (tables_in tables.entry state.used) journal.now (as_link link) }
 {
-    let n = journal_number(state, sets, entries, smallest, unions, journal);
-    if n != 0 {
-        return n;
-    }
-    link_step(state, entries, low, high, weight)
+    check_journal(state, tables, journal)?;
+    check_link(state, tables.entries, link)
 }
 
-// The first of 11, 12, 20 and 19 that applies to a taking back, or 0.
-pub fn back_number(
-    state: State,
-    sets: &[u64],
-    entries: &[u32],
-    smallest: &[u64],
-    unions: &[u64],
-    journal: &[u64],
-) -> u8
-    ensures { result ≡ back_number state (tables sets.now entries.now smallest.now unions.now state.used) journal.now }
+// The first of 11, 12, 20 and 19 that applies to a taking back.
+pub fn check_back(state: State, tables: View, journal: &[u64]) -> Result<(), Fault>
+    ensures { fault_number result ≡ back_number state (tables_in tables.entry state.used) journal.now }
 {
-    let n = journal_number(state, sets, entries, smallest, unions, journal);
-    if n != 0 {
-        return n;
-    }
+    check_journal(state, tables, journal)?;
     if state.links == 0 {
-        return 19;
+        return Err(Fault::NoLink);
     }
-    0
+    Ok(())
 }

@@ -2,95 +2,102 @@
 
 // The rows that sequential_trial prints of a start, of inserts and takings back, and of the listing now: what each was answered and what became of the tables.
 // No contract can say which bytes are written: a stored output does.
+ghost use Rattle.std.specs.Prelude.{◌≡◌, length};
+
 use answers::Answer;
 use console::{field, text};
-use sequential::Stepped;
+use sequential::{Link, Stepped};
+use slots::{Lent, View};
 use states::State;
+
+// One link more, or the last one taken back, for which a script has a link from part 255.
+#[derive(Clone, Copy, Debug, PartialEq, Eq)]
+enum Step {
+    Insert(Link),
+    TakeBack,
+}
+
+impl From<Link> for Step {
+    fn from(link: Link) -> Step {
+        if link.low == 255 {
+            Step::TakeBack
+        } else {
+            Step::Insert(link)
+        }
+    }
+}
+
+impl Step {
+    // A link of four bytes, as in a sheet.
+    fn of_bytes(link: &[u8]) -> Step
+        requires { length link.now ≡ 4 }
+    {
+        Step::from(Link {
+            low: usize::from(link[0]),
+            high: usize::from(link[1]),
+            weight: u16::from_be_bytes([link[2], link[3]]),
+        })
+    }
+
+    fn show(self) {
+        match self {
+            Step::Insert(link) => {
+                field(b"", link.low);
+                field(b"-", link.high);
+                field(b" of ", usize::from(link.weight));
+            }
+            Step::TakeBack => text(b"taken back"),
+        }
+    }
+
+    fn run(self, state: State, tables: &mut Lent, journal: &mut [u64]) -> Stepped {
+        match self {
+            Step::Insert(link) => sequential::insert(state, tables, journal, link),
+            Step::TakeBack => sequential::take_back(state, tables, journal),
+        }
+    }
+}
 
 // Whether a step was accepted.
 fn accepted(a: Answer) -> bool {
     match a {
-        Answer::Count(_) => {
+        Ok(_) => {
             text(b": accepted");
             true
         }
-        Answer::Refused(n, place) => {
+        Err(r) => {
             text(b": ");
-            trial::refused(n, place);
+            trial::refused(r);
             false
         }
     }
 }
 
 // A start.
-fn begin(
-    p: usize,
-    k: usize,
-    sets: &mut [u64],
-    entries: &mut [u32],
-    smallest: &mut [u64],
-    unions: &mut [u64],
-    journal: &mut [u64],
-) -> State {
+fn begin(p: usize, k: usize, tables: &mut Lent, journal: &mut [u64]) -> State {
     field(b"start p ", p);
     field(b" k ", k);
-    let r = sequential::start(p, k, sets, entries, smallest, unions, journal);
-    let a = r.answer;
-    accepted(a);
-    trial::left(sets, entries, smallest, unions);
+    let r = sequential::start(p, k, tables, journal);
+    accepted(r.answer);
+    trial::left(tables.view());
     r.state
 }
 
-// The row of a step. What the tables hold after an accepted one is open.
-fn inserted(
-    a: Answer,
-    before: &[u64; 4000],
-    sets: &[u64],
-    entries: &[u32],
-    smallest: &[u64],
-    unions: &[u64],
-) {
+// What became of a step. What the tables hold after an accepted one is open.
+fn became(a: Answer, before: &[u64; 4000], tables: View) {
     if accepted(a) {
         text(b"\n");
-        return;
-    }
-    let after = trial::copied(0, sets, entries, smallest, unions);
-    if trial::same(before, &after) {
+    } else if trial::same(before, &trial::copied(0, tables)) {
         text(b", tables as before\n");
-        return;
+    } else {
+        text(b", tables written\n");
     }
-    text(b", tables written\n");
-}
-
-// One link more, or the last one taken back.
-pub fn stepped(
-    state: State,
-    sets: &mut [u64],
-    entries: &mut [u32],
-    smallest: &mut [u64],
-    unions: &mut [u64],
-    journal: &mut [u64],
-    low: usize,
-    high: usize,
-    weight: u16,
-) -> Stepped {
-    if low == 255 {
-        return sequential::take_back(state, sets, entries, smallest, unions, journal);
-    }
-    sequential::insert(
-        state, sets, entries, smallest, unions, journal, low, high, weight,
-    )
 }
 
 // An entry of the journal, as the link that it stands for.
 fn in_journal(label: &[u8], journal: &[u64], i: usize) {
     text(label);
-    let e = journal::at(journal, i);
-    link(
-        journal::low_of(e),
-        journal::high_of(e),
-        trial::small(journal::weight_of(e)),
-    );
+    Step::from(Link::from(journal::at(journal, i))).show();
 }
 
 // What remains after a step: how many links, the last weight, the slots in use, and the entries of the journal around the last link's.
@@ -105,100 +112,35 @@ fn remains(state: State, journal: &[u64]) {
     text(b"\n");
 }
 
-fn step(
-    state: State,
-    sets: &mut [u64],
-    entries: &mut [u32],
-    smallest: &mut [u64],
-    unions: &mut [u64],
-    journal: &mut [u64],
-    low: usize,
-    high: usize,
-    weight: u16,
-) -> State {
-    let before = trial::copied(0, sets, entries, smallest, unions);
-    let r = stepped(
-        state, sets, entries, smallest, unions, journal, low, high, weight,
-    );
-    let a = r.answer;
-    inserted(a, &before, sets, entries, smallest, unions);
-    if low == 255 {
+// The row of a step.
+fn row(step: Step, state: State, tables: &mut Lent, journal: &mut [u64]) -> State {
+    let before = trial::copied(0, tables.view());
+    step.show();
+    let r = step.run(state, tables, journal);
+    became(r.answer, &before, tables.view());
+    if step == Step::TakeBack {
         remains(r.state, journal);
     }
     r.state
 }
 
-fn wide(b: u8) -> usize {
-    b as usize
-}
-
-fn weight(high: u8, low: u8) -> u16 {
-    (high as u16) * 256 + (low as u16)
-}
-
-fn link(low: usize, high: usize, weight: u16) {
-    if low == 255 {
-        text(b"taken back");
-        return;
-    }
-    field(b"", low);
-    field(b"-", high);
-    field(b" of ", weight as usize);
-}
-
-// Inserts links of four bytes, as in a sheet.
-fn inserts(
-    start: State,
-    links: &[u8],
-    sets: &mut [u64],
-    entries: &mut [u32],
-    smallest: &mut [u64],
-    unions: &mut [u64],
-    journal: &mut [u64],
-) -> State {
+// Steps of four bytes each.
+fn inserts(start: State, links: &[u8], tables: &mut Lent, journal: &mut [u64]) -> State {
     let mut state = start;
-    let mut i = 0;
-    while 4 <= links.len() - i {
-        let w = weight(links[i + 2], links[i + 3]);
-        let low = wide(links[i]);
-        let high = wide(links[i + 1]);
-        link(low, high, w);
-        state = step(
-            state, sets, entries, smallest, unions, journal, low, high, w,
-        );
-        i += 4;
+    for link in links.chunks_exact(4) {
+        state = row(Step::of_bytes(link), state, tables, journal);
     }
     state
 }
 
-fn now(
-    state: State,
-    sets: &[u64],
-    entries: &[u32],
-    smallest: &[u64],
-    unions: &[u64],
-    out: &mut [u8],
-) {
+// A start, inserts and takings back, and the listing now. Gives back the last state.
+pub fn steps(p: usize, k: usize, links: &[u8], tables: &mut Lent, out: &mut [u8]) -> State {
+    let mut journal = [9u64; 2016];
+    let start = begin(p, k, tables, &mut journal);
+    let state = inserts(start, links, tables, &mut journal);
     text(b"listing now: ");
-    let a = sequential::listing_now(state, sets, entries, smallest, unions, out);
+    let a = sequential::listing_now(state, tables.view(), out);
     trial::listed(a, out);
     text(b"\n");
-}
-
-// A start, inserts and takings back, and the listing now. Gives back the last state.
-pub fn steps(
-    p: usize,
-    k: usize,
-    links: &[u8],
-    sets: &mut [u64],
-    entries: &mut [u32],
-    smallest: &mut [u64],
-    unions: &mut [u64],
-    out: &mut [u8],
-) -> State {
-    let mut journal = [9u64; 2016];
-    let s = begin(p, k, sets, entries, smallest, unions, &mut journal);
-    let u = inserts(s, links, sets, entries, smallest, unions, &mut journal);
-    now(u, sets, entries, smallest, unions, out);
-    u
+    state
 }

@@ -1,18 +1,22 @@
 -- The run on an admitted sheet: 15 for the clique list by all k-cliques, and then the listing of the family that the list gives is that of the strong cliques
 -- of the definition. Assumes nothing.
 use mathlib.Core.Path.{◌≡◌, sym, ap, ◌∙◌, subst}
+use mathlib.Core.Logic.{◌⊎◌, inl, inr}
 use mathlib.Core.Bool.{Bool, true, false, ◌&&◌}
 use mathlib.Core.List.{List, map}
 use Prim.Native.Nat.{ℕ, ◌≤◌, ◌<◌}
 use native.Mathlib.Omega.{arith}
 use lib.Dec.{leb}
 use lib.ListN.{length, take}
-use Rattle.answers.specs.Verdict.{accepted}
-use Rattle.answers.specs.declared.Answer.{Answer}
+use lib.Ieee.{Float}
+use borrow.Author.Tests.{le-leb, lt-leb}
+use Rattle.answers.specs.Verdict.{accepted, refused, unless}
+use Rattle.answers.specs.Answers.{Answer}
 use Rattle.sets.specs.Lists.{◌∈◌, keep, below}
 use Rattle.sets.specs.Sets.{size, sets_of}
 use Rattle.sets.specs.Value.{width, rows, row, no_rows}
-use Rattle.sets.proofs.Tests.{and_stop}
+use Rattle.answers.proofs.Laws.{last_go, accepted_not}
+use Rattle.sets.proofs.Tests.{and_stop, lt_or_le}
 use Rattle.sets.proofs.ListLaws.{Holds, keep_at, keep_of, keep_same}
 use Rattle.percolation.specs.Percolate.{Community, communities, listing_bytes}
 use Rattle.percolation.specs.Links.{Link, cliques, slots}
@@ -30,7 +34,7 @@ use Rattle.sheet.specs.Sheet.{parts, links, links_of, check_sheet}
 use Rattle.sheet.proofs.Sound.{sheet_legal}
 use Rattle.maximal_search.specs.Model.{found, found_all}
 use Rattle.weights.specs.Model.{Weighs}
-use Rattle.clique_list.specs.Model.{cliques_by}
+use Rattle.clique_list.specs.Model.{cliques_by, Scores}
 use Rattle.clique_list.proofs.Stored.{stored_of, stored_at, stored_many, stored_fit, stored_rows}
 use Rattle.percolating.specs.Model.{strong_by}
 use Rattle.strong_listing.specs.Model.{ListsFamily}
@@ -70,6 +74,14 @@ module _ (s : List ℕ) (k : ℕ) (M : Measure) (b : Bool) (ok : check_strength 
   pub list_short : (n : ℕ) → r < c → fits_strength s k M r n ≡ false
   unfolding fits_strength
   list_short n h = sym (and_stop (leb (length (cliques L p k)) r) _ (stored_many L p R legals wide near k r c T S held h))
+
+  -- as the code says it
+  pub list_refused : (n x y : ℕ) → refused x y ≡ unless (leb c r) 15 0 → refused x y ≡ unless (fits_strength s k M r n) 15 0
+  list_refused n x y e = go (lt_or_le r c)
+    where
+      go : (r < c) ⊎ (c ≤ r) → refused x y ≡ unless (fits_strength s k M r n) 15 0
+      go (inl h) = e ∙ ap (λ (b : Bool). unless b 15 0) (lt-leb c r h ∙ sym (list_short n h))
+      go (inr h) = accepted_not x y (e ∙ last_go (leb c r) 15 0 (le-leb c r h))
 
   -- the cliques of the list that the table of weights W finds strong
   module _ (h : c ≤ r) (long : r ≤ rows T) (W : List ℕ) (weighs : Weighs (links_of s) W) where
@@ -130,3 +142,12 @@ module _ (s : List ℕ) (k : ℕ) (M : Measure) (b : Bool) (ok : check_strength 
         (subst (λ (D : List Community). RunMeets (enough (length es) (slots p k F)) (length D) (listing_bytes D) old a out) same_listing
         (f p k wide (good_k_lem k (strength_k s k M b ok)).0 (λ x i. own_sets x (to_strong x i))
         (λ e. ap (enough (length es)) same_slots ∙ sure_fits s k M sheet es u told e)))
+
+-- ---- the lists as the code hands them on
+
+pub scores_seen : (W C D : List ℕ) (n : ℕ) (P Q : List Float) → C ≡ D → P ≡ Q → Scores W D n Q → Scores W C n P
+scores_seen W C D n P Q e f h = subst (λ (X : List ℕ). Scores W X n P) (sym e) (subst (λ (X : List Float). Scores W D n X) (sym f) h)
+
+pub family_seen : (M : Measure) (W C D : List ℕ) (n : ℕ) (u : Bool) (x : ℕ) (old : List ℕ) (a : Answer) (out : List ℕ) → C ≡ D
+    → ListsFamily u (keep (strong_by M W) (map (row C) (below n))) x old a out → ListsFamily u (keep (strong_by M W) (map (row D) (below n))) x old a out
+family_seen M W C D n u x old a out e h = subst (λ (X : List ℕ). ListsFamily u (keep (strong_by M W) (map (row X) (below n))) x old a out) e h

@@ -8,7 +8,7 @@ use native.Mathlib.Omega.{arith}
 use lib.ListN.{length}
 use Rattle.answers.specs.Verdict.{accepted}
 use Rattle.answers.specs.Answers.{counts, says}
-use Rattle.answers.specs.declared.Answer.{Answer}
+use Rattle.answers.specs.Answers.{Answer}
 use Rattle.answers.proofs.Laws.{then_left, said_count}
 use Rattle.sets.specs.Lists.{◌∈◌, below}
 use Rattle.percolation.specs.Percolate.{Community}

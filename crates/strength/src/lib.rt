@@ -4,46 +4,42 @@
 ghost use Rattle.std.specs.Prelude.{◌≡◌, length};
 ghost use Rattle.answers.specs.Verdict.{accepted};
 ghost use Rattle.sheet.specs.Sheet.{parts, links};
-ghost use Rattle.runs.specs.Lent.{lent};
-ghost use Rattle.strong_checks.specs.OnSheet.{clique_list, level_all, check_strength, StrengthRuns, StrengthMeets};
+ghost use Rattle.slots.specs.Lent.{tables_of, SameLent};
+ghost use Rattle.clique_list.specs.Lent.{SameList};
+ghost use Rattle.strong_checks.specs.OnSheet.{list_of, level_all, check_strength, StrengthRuns, StrengthMeets};
 
-use answers::Answer;
+use answers::{Answer, Fault};
+use clique_list::CliqueList;
 use products::Measure;
-use sheet::Checked;
+use sheet::Counts;
+use slots::Lent;
 
 // The k-cliques of an admitted sheet into the clique list, their products, and the listing of the strong ones, in a list and tables that it leaves anyhow:
 // 15, 16.
 fn run(
     sheet: &[u8],
-    p: usize,
-    m: usize,
+    counts: Counts,
     k: usize,
     measure: Measure,
-    cliques: &mut [u64],
-    products: &mut [f64],
-    sets: &mut [u64],
-    entries: &mut [u32],
-    smallest: &mut [u64],
-    unions: &mut [u64],
+    list: &mut CliqueList,
+    tables: &mut Lent,
     out: &mut [u8],
 ) -> Answer
-    requires { (check_strength sheet.now k measure (level_all (clique_list cliques.old products.old) (lent sets.old entries.old smallest.old unions.old))
-        ≡ accepted) × (p ≡ parts sheet.now) × (m ≡ links sheet.now) }
-    ensures { StrengthRuns sheet.now k measure (length products.old) (length entries.old) out.old result out.new }
+    requires { (check_strength sheet.now k measure (level_all (list_of list.old) (tables_of tables.old 0)) ≡ accepted)
+        × (counts.parts ≡ parts sheet.now) × (counts.links ≡ links sheet.now) }
+    ensures lent { SameLent tables.old tables.new }
+    ensures list { SameList list.old list.new }
+    ensures runs { StrengthRuns sheet.now k measure (length list.old.products.now) (length tables.old.entries.now) out.old result out.new }
 {
-    let rows = runs::rows_of(sheet, m);
-    let room = products.len();
-    let n = clique_list::store_cliques(&rows, cliques, room, p, k);
-    if room < n {
-        return Answer::Refused(15, 0);
-    }
+    let rows = runs::rows_of(sheet, counts.links);
+    let room = list.products.len();
+    let n = clique_list::store_cliques(&rows, list.cliques, room, counts.parts, k);
+    answers::require(n <= room, Fault::Slots, 0)?;
     let mut table = [0u16; 4096];
-    weights::fill(sheet, m, &mut table);
-    clique_list::score_cliques(&table, cliques, n, products);
-    let sure = strong_checks::is_sure(sheet, p, m, k, measure, entries);
-    strong_listing::list(
-        measure, &table, cliques, products, n, sure, sets, entries, smallest, unions, out,
-    )
+    weights::fill(sheet, counts.links, &mut table);
+    clique_list::score_cliques(&table, list, n);
+    let sure = strong_checks::is_sure(sheet, counts, k, measure, tables.view().entries);
+    strong_listing::list(measure, &table, list.view(), n, sure, tables, out)
 }
 
 // The listing of a sheet by clique strength: the sheet's checks, 10, 22, 23, 11, then 15 for the clique list and for the slots of the strong cliques, and 16.
@@ -52,27 +48,19 @@ pub fn listing(
     sheet: &[u8],
     k: usize,
     measure: Measure,
-    cliques: &mut [u64],
-    products: &mut [f64],
-    sets: &mut [u64],
-    entries: &mut [u32],
-    smallest: &mut [u64],
-    unions: &mut [u64],
+    list: &mut CliqueList,
+    tables: &mut Lent,
     out: &mut [u8],
 ) -> Answer
-    ensures { StrengthMeets sheet.now k measure (clique_list cliques.old products.old) (lent sets.old entries.old smallest.old unions.old)
-        out.old result (clique_list cliques.new products.new) (lent sets.new entries.new smallest.new unions.new) out.new }
+    ensures lent { SameLent tables.old tables.new }
+    ensures list { SameList list.old list.new }
+    ensures meets { StrengthMeets sheet.now k measure (list_of list.old) (tables_of tables.old 0)
+        out.old result (list_of list.new) (tables_of tables.new 0) out.new }
 {
-    let ok = strong_checks::level(cliques, products, sets, entries, smallest, unions);
-    match strong_checks::admit(sheet, k, measure, ok) {
-        Checked::Faulty(n, a) => Answer::Refused(n, a),
-        Checked::Fine(p, m) => {
-            let answer = run(
-                sheet, p, m, k, measure, cliques, products, sets, entries, smallest, unions, out,
-            );
-            strong_checks::clear_list(cliques, products);
-            runs::clear(sets, entries, smallest, unions);
-            answer
-        }
-    }
+    let level = strong_checks::level(list.view(), tables.view());
+    let counts = strong_checks::admit(sheet, k, measure, level)?;
+    let answer = run(sheet, counts, k, measure, list, tables, out);
+    strong_checks::clear_list(list);
+    runs::clear(tables);
+    answer
 }

@@ -2,7 +2,7 @@
 use Rattle.std.specs.Prelude.{◌≡◌, Bool, not, ◌&&◌, List, ℕ, leb, length, replicate, Float}
 use Rattle.std.specs.Float.Ieee.{is_nan}
 use Rattle.answers.specs.Verdict.{Verdict, accepted, refused, ◌then◌, unless}
-use Rattle.answers.specs.declared.Answer.{Answer}
+use Rattle.answers.specs.Answers.{Answer}
 use Rattle.sets.specs.Value.{sized}
 use Rattle.percolation.specs.Percolate.{Community, listing_bytes}
 use Rattle.percolation.specs.Links.{cliques, slots}
@@ -17,6 +17,8 @@ use Rattle.slots.specs.Tables.{Tables}
 use Rattle.runs.specs.Lent.{level}
 use Rattle.runs.specs.OnSheet.{RunMeets, CallMeets}
 use Rattle.clique_list.specs.NoProduct.{no_product}
+use Rattle.clique_list.specs.declared.CliqueList.{CliqueList as LentList}
+use Rattle.clique_list.specs.declared.CliqueView.{CliqueView}
 
 -- ---- the lent clique list
 
@@ -27,6 +29,13 @@ pub record CliqueList : Type 0 where
 
 abbrev pub clique_list : List ℕ → List Float → CliqueList
 clique_list s v = record { sets = s; products = v }
+
+-- the one that the code is lent
+abbrev pub list_of : LentList → CliqueList
+list_of l = clique_list l.cliques.now l.products.now
+
+abbrev pub list_in : CliqueView → CliqueList
+list_in v = clique_list v.cliques.now v.products.now
 
 -- as many sets as products, and tables of as many sets as there are joining entries, no word more
 unfoldable pub level_all : CliqueList → Tables → Bool

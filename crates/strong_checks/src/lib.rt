@@ -10,28 +10,24 @@ ghost use Rattle.percolation.specs.Ranges.{good_k};
 ghost use Rattle.percolation.specs.Steps.{enough};
 ghost use Rattle.sheet.specs.Answers.{sheet_says, sheet_say};
 ghost use Rattle.sheet.specs.Sheet.{parts, links, links_of, check_sheet};
-ghost use Rattle.runs.specs.Lent.{lent};
+ghost use Rattle.slots.specs.Lent.{tables_in};
+ghost use Rattle.clique_list.specs.Lent.{SameList};
 ghost use Rattle.strong_checks.specs.Model.{bearing};
-ghost use Rattle.strong_checks.specs.OnSheet.{clique_list, level_all, check_measure, check_strength, cleared_list};
+ghost use Rattle.strong_checks.specs.OnSheet.{list_of, list_in, level_all, check_measure, check_strength, cleared_list};
 
-use answers::Tried;
+use answers::{Fault, Refusal};
+use clique_list::{CliqueList, CliqueView};
 use products::Measure;
-use sheet::Checked;
+use sheet::Counts;
+use slots::View;
 
 // ---- the checks before 15
 
 // Whether the clique list has as many sets as products, and the tables of sets have as many sets as there are joining entries.
-pub fn level(
-    cliques: &[u64],
-    products: &[f64],
-    sets: &[u64],
-    entries: &[u32],
-    smallest: &[u64],
-    unions: &[u64],
-) -> bool
-    ensures { result ≡ level_all (clique_list cliques.now products.now) (lent sets.now entries.now smallest.now unions.now) }
+pub fn level(list: CliqueView, tables: View) -> bool
+    ensures { result ≡ level_all (list_in list.entry) (tables_in tables.entry 0) }
 {
-    sets::sized(cliques, products.len()) && runs::level(sets, entries, smallest, unions)
+    sets::sized(list.cliques, list.products.len()) && runs::level(tables)
 }
 
 // Only a NaN differs from itself.
@@ -42,42 +38,27 @@ fn is_number(t: f64) -> bool
 }
 
 // 22 and 23.
-fn check_measure(k: usize, measure: Measure) -> Tried
+fn check_measure(k: usize, measure: Measure) -> Result<(), Refusal>
     ensures { verdict result ≡ check_measure k measure }
 {
     match measure {
-        Measure::Weakest(_) => Tried::Pass,
+        Measure::Weakest(_) => Ok(()),
         Measure::Product(t) => {
-            let few = answers::unless(k <= 4, 22, 0);
-            let number = answers::unless(is_number(t), 23, 0);
-            answers::then(few, number)
+            answers::require(k <= 4, Fault::ProductSize, 0)?;
+            answers::require(is_number(t), Fault::NotANumber, 0)
         }
     }
-}
-
-// 10, 22, 23 and 11.
-fn check_numbers(k: usize, measure: Measure, level: bool) -> Tried
-    ensures { verdict result ≡ (unless (good_k k) 10 0 then check_measure k measure then unless level 11 0) }
-{
-    let size = answers::unless(checks::good_k(k), 10, 0);
-    let test = check_measure(k, measure);
-    let space = answers::unless(level, 11, 0);
-    answers::then(size, answers::then(test, space))
 }
 
 // The sheet's checks, 10, 22, 23, 11. Where they pass, the sheet's part count and link count.
-pub fn admit(sheet: &[u8], k: usize, measure: Measure, level: bool) -> Checked
+pub fn admit(sheet: &[u8], k: usize, measure: Measure, level: bool) -> Result<Counts, Refusal>
     ensures { sheet_says result ≡ sheet_say (check_strength sheet.now k measure level) sheet.now }
 {
-    match sheet::check(sheet) {
-        Checked::Faulty(n, a) => Checked::Faulty(n, a),
-        Checked::Fine(p, m) => {
-            if let Tried::Stop(n, a) = check_numbers(k, measure, level) {
-                return Checked::Faulty(n, a);
-            }
-            Checked::Fine(p, m)
-        }
-    }
+    let counts = sheet::check(sheet)?;
+    answers::require(checks::good_k(k), Fault::CliqueSize, 0)?;
+    check_measure(k, measure)?;
+    answers::require(level, Fault::Tables, 0)?;
+    Ok(counts)
 }
 
 // ---- the slots
@@ -95,27 +76,21 @@ fn bearing(sheet: &[u8], m: usize, measure: Measure) -> usize
 
 // Whether there are slots enough for all cliques of those links, and so for the strong ones: 15 then needs no search beside the one that takes them in. For
 // sister crates: the checks before 15 show what is required.
-pub fn is_sure(
-    sheet: &[u8],
-    p: usize,
-    m: usize,
-    k: usize,
-    measure: Measure,
-    entries: &[u32],
-) -> bool
-    requires { (check_sheet sheet.now ≡ accepted) × (p ≡ parts sheet.now) × (m ≡ links sheet.now) × (2 ≤ k) }
+pub fn is_sure(sheet: &[u8], counts: Counts, k: usize, measure: Measure, entries: &[u32]) -> bool
+    requires { (check_sheet sheet.now ≡ accepted) × (counts.parts ≡ parts sheet.now) × (counts.links ≡ links sheet.now) × (2 ≤ k) }
     ensures { result ≡ enough (length entries.now) (slots (parts sheet.now) k (cliques (bearing measure (links_of sheet.now)) (parts sheet.now) k)) }
 {
-    let n = bearing(sheet, m, measure);
-    runs::has_slots(sheet, n, p, k, entries)
+    let n = bearing(sheet, counts.links, measure);
+    runs::has_slots(sheet, n, counts.parts, k, entries)
 }
 
 // ---- the clique list
 
 // Every word of the clique list becomes zero.
-pub fn clear_list(cliques: &mut [u64], products: &mut [f64])
-    ensures { clique_list cliques.new products.new ≡ cleared_list (clique_list cliques.old products.old) }
+pub fn clear_list(list: &mut CliqueList)
+    ensures lent { SameList list.old list.new }
+    ensures list_after { list_of list.new ≡ cleared_list (list_of list.old) }
 {
-    sets::clear(cliques);
-    clique_list::clear_products(products);
+    sets::clear(list.cliques);
+    clique_list::clear_products(list.products);
 }

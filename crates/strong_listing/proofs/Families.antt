@@ -6,7 +6,9 @@ use mathlib.Core.Bool.{Bool, true, false}
 use mathlib.Core.List.{List}
 use Prim.Native.Nat.{ℕ, ◌≤◌, ◌<◌}
 use native.Mathlib.Omega.{arith}
+use lib.Dec.{leb}
 use lib.ListN.{length}
+use borrow.Author.Tests.{le-leb, lt-leb}
 use Rattle.sets.specs.Value.{width}
 use Rattle.sets.proofs.Tests.{lt_or_le}
 use Rattle.percolation.specs.Percolate.{communities}
@@ -63,6 +65,14 @@ module _ (p k : ℕ) (wide : p ≤ width) (two : 2 ≤ k) (F : List ℕ) (family
 
   pub family_fits : U.used ≤ y → enough (length T.entries) (slots p k F) ≡ true
   family_fits h = enough_room T.entries (slots p k F) (fits h)
+
+  -- what the code tests for 15
+  pub family_tells : leb U.used y ≡ enough (length T.entries) (slots p k F)
+  family_tells = go (lt_or_le y U.used)
+    where
+      go : (y < U.used) ⊎ (U.used ≤ y) → leb U.used y ≡ enough (length T.entries) (slots p k F)
+      go (inl h) = lt-leb U.used y h ∙ sym (family_short h)
+      go (inr h) = le-leb U.used y h ∙ sym (family_fits h)
 
   pub family_listed : U.used ≤ y → listed U.entries U.smallest U.unions U.used ≡ communities k F
   family_listed h = listed_communities p k F U family (omega (arith, two)) (shows (fits h))

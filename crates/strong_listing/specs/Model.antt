@@ -1,6 +1,6 @@
 -- Model of the code: what the listing of a family of k-sets must be, with n slots; the call says which family that is. Assumes nothing.
 use Rattle.std.specs.Prelude.{◌≡◌, Bool, true, List, ℕ, ◌≤◌, length}
-use Rattle.answers.specs.declared.Answer.{Answer}
+use Rattle.answers.specs.Answers.{Answer}
 use Rattle.sets.specs.Lists.{◌∈◌}
 use Rattle.sets.specs.Sets.{size, sets_of}
 use Rattle.sets.specs.Value.{width}

@@ -5,9 +5,11 @@ use Prim.Native.Nat.{ℕ, zero, suc, ◌-◌, ◌≤◌, ◌<◌}
 use native.Mathlib.Omega.{arith}
 use borrow.Author.Tests.{le-leb, lt-leb}
 use lib.Dec.{leb}
-use Rattle.answers.specs.Verdict.{unless}
+use Rattle.answers.specs.declared.Refusal.{Refusal}
+use Rattle.answers.specs.Faults.{number_of}
+use Rattle.answers.specs.Verdict.{refused, unless}
 use Rattle.answers.specs.Answers.{counts, refuses, say_of}
-use Rattle.answers.proofs.Laws.{stop, go, last_stop, last_go, say_accepted, say_refused}
+use Rattle.answers.proofs.Laws.{then_stop, go, last_go, say_accepted, say_refused}
 use Rattle.sets.proofs.Tests.{no_and}
 use Rattle.percolation.specs.Ranges.{good_count, good_k}
 use Rattle.percolation.proofs.Ranges.{good_count_lem, good_k_lem}
@@ -48,15 +50,18 @@ bound_at p k e f h =
     in_table p (k - 1) (good_count_lem p e).1 (omega (arith, (good_k_lem k f).1)) ∙ sym (bound_in p k h)
 
 module _ (p k n : ℕ) where
-  pub says_four : good_count p ≡ false → refuses 4 0 ≡ say_of (check_bound p k) n
+  pub said_four : (f : Refusal) → refused (number_of f.fault) f.place ≡ unless (good_count p) 4 0 → refuses (number_of f.fault) f.place ≡ say_of (check_bound p k) n
   unfolding check_bound
-  says_four e = sym (say_refused (check_bound p k) n 4 0 (stop (good_count p) 4 0 (unless (good_k k) 10 0) e))
+  said_four f e =
+      let m = number_of f.fault in
+      sym (say_refused (check_bound p k) n m f.place (then_stop (unless (good_count p) 4 0) (unless (good_k k) 10 0) m f.place (sym e)))
 
   module _ (e : good_count p ≡ true) where
-    pub says_ten : good_k k ≡ false → refuses 10 0 ≡ say_of (check_bound p k) n
+    pub said_ten : (f : Refusal) → refused (number_of f.fault) f.place ≡ unless (good_k k) 10 0 → refuses (number_of f.fault) f.place ≡ say_of (check_bound p k) n
     unfolding check_bound
-    says_ten f =
-        sym (say_refused (check_bound p k) n 10 0 (go (good_count p) 4 0 (unless (good_k k) 10 0) e ∙ last_stop (good_k k) 10 0 f))
+    said_ten f r =
+        let m = number_of f.fault in
+        sym (say_refused (check_bound p k) n m f.place (go (good_count p) 4 0 (unless (good_k k) 10 0) e ∙ sym r))
 
     pub says_count : good_k k ≡ true → (b : ℕ) → b ≡ n → counts b ≡ say_of (check_bound p k) n
     unfolding check_bound

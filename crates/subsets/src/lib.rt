@@ -5,7 +5,7 @@ ghost use Rattle.std.specs.Prelude.{◌≡◌, ◌≤◌};
 ghost use Rattle.answers.specs.Answers.{says, say_of};
 ghost use Rattle.subsets.specs.Subsets.{subset_count, table_count, slot_bound, check_bound};
 
-use answers::Answer;
+use answers::{Answer, Fault};
 
 // C(n, r) as n (n - 1) .. (n - r + 1) / r!, divided step by step: what is divided is a multiple each time.
 fn product(n: usize, r: usize) -> usize
@@ -13,10 +13,8 @@ fn product(n: usize, r: usize) -> usize
     ensures { result ≡ subset_count n r }
 {
     let mut c = 1;
-    let mut i = 0;
-    while i < r {
+    for i in 0..r {
         c = c * (n - i) / (i + 1);
-        i += 1;
     }
     c
 }
@@ -41,14 +39,10 @@ pub fn subset_count(n: usize, r: usize) -> usize
 pub fn slot_bound(p: usize, k: usize) -> Answer
     ensures { says result ≡ say_of (check_bound p k) (slot_bound p k) }
 {
-    if !checks::good_count(p) {
-        return Answer::Refused(4, 0);
-    }
-    if !checks::good_k(k) {
-        return Answer::Refused(10, 0);
-    }
+    answers::require(checks::good_count(p), Fault::PartCount, 0)?;
+    answers::require(checks::good_k(k), Fault::CliqueSize, 0)?;
     if p < k {
-        return Answer::Count(0);
+        return Ok(0);
     }
-    Answer::Count(subset_count(p, k - 1))
+    Ok(subset_count(p, k - 1))
 }

@@ -7,13 +7,12 @@ use Prim.Native.Nat.{ℕ, ◌+◌, ◌<◌, ◌≤◌, min, max}
 use native.Mathlib.Omega.{arith}
 use lib.Dec.{eqb}
 use lib.ListN.{length, get_or, length-append}
-use borrow.Author.Tests.{ltb-true, lt-ltb, le-ltb, leb-true, eq-eqb, ne_eqb}
+use borrow.Author.Tests.{ltb-true, eq-eqb, ne_eqb}
 use Rattle.answers.specs.Verdict.{Verdict, accepted, refused, ◌then◌, unless}
 use Rattle.answers.specs.Answers.{counts, say_of}
-use Rattle.answers.proofs.Laws.{stop, go, last_stop, last_go, say_accepted, say_refused, accepted_not, then_left, then_right, unless_passed}
+use Rattle.answers.proofs.Laws.{stop, go, last_stop, last_go, say_accepted, say_refused, accepted_not, then_left, then_right, then_go, then_stop, unless_passed}
 use Rattle.sets.specs.Lists.{all}
-use Rattle.sets.proofs.Tests.{iff, not_so, and_right, lt_or_le}
-use Rattle.percolation.specs.Ranges.{in_range}
+use Rattle.sets.proofs.Tests.{iff, lt_or_le}
 use Rattle.sets.specs.Sets.{has}
 use Rattle.sets.specs.Value.{width, row}
 use Rattle.percolation.specs.Links.{Link, link, linked}
@@ -22,144 +21,156 @@ use Rattle.checks.specs.Neighbours.{Neighbours}
 use Rattle.checks.proofs.Near.{near_more}
 use Rattle.checks.specs.Model.{marked}
 use Rattle.link_order.specs.Order.{LinkLists, has_room, put_link}
+use Rattle.link_order.specs.Lent.{as_link}
 use Rattle.words.specs.Lines.{blank, words, Said, silent, part_said, link_said, neither}
 use Rattle.words.proofs.WordLaws.{word_plain}
-use Rattle.text.specs.declared.Step.{Step}
-use Rattle.text.specs.declared.Step.TheVariants.{Count, Fault}
-use Rattle.text.specs.declared.Fields.{Fields}
-use Rattle.text.specs.declared.Fields.TheVariants as fields
+use Rattle.std.specs.Prelude.{Option, Some, None, Result, Ok, Err}
+use Rattle.answers.specs.Answers.{Answer}
+use Rattle.answers.specs.Faults.{number_of as fault_no}
+use Rattle.answers.specs.declared.Refusal.{Refusal}
+use Rattle.answers.specs.declared.fault.Fault.{Fault}
+use Rattle.answers.specs.declared.fault.Fault.TheVariants.{LinkParts, NoWeight, LinkAgain, Space, UnknownPart, WeightForm}
+use Rattle.link_order.specs.declared.Link.{Link as Row}
+use Rattle.text.proofs.PartLaws.{refusal, then_same}
 use Rattle.text.specs.Reading.{known, number_of, is_weight, value, link_given, check_link}
-use Rattle.text.specs.Model.{check_fields, fields_check, fields_link, FieldsMeet, check_take, TakeMeets, LinkMeets}
+use Rattle.text.specs.Model.{found, check_fields, fields_check, fields_link, FieldsMeet, check_take, TakeMeets, LinkMeets}
 
 -- ---- taking a link in
 
-module _ (t : LinkLists) (seen : List ℕ) (m a : ℕ) (f : Fields) (t2 : LinkLists) (seen2 : List ℕ) where
-  take_refused : (k b : ℕ) → check_take t seen m a f ≡ refused k b → TakeMeets t seen m a f (Fault k b) t2 seen2
-  take_refused k b e = record {
-    answer = sym (say_refused _ _ k b e);
-    lists = λ g. accepted_not k b (sym e ∙ g);
-    rows = λ g. accepted_not k b (sym e ∙ g);
+module _ (t : LinkLists) (seen : List ℕ) (m a : ℕ) (l : Link) (t2 : LinkLists) (seen2 : List ℕ) where
+  take_refused : (r : Refusal) → check_take t seen m a l ≡ refused (fault_no r.fault) r.place → TakeMeets t seen m a l (Err r) t2 seen2
+  take_refused r e = record {
+    answer = sym (say_refused _ _ _ _ e);
+    lists = λ g. accepted_not _ _ (sym e ∙ g);
+    rows = λ g. accepted_not _ _ (sym e ∙ g);
   }
 
-  pub take_fault : (n : ℕ) → f ≡ fields.Fault n → TakeMeets t seen m a f (Fault n a) t2 seen2
-  unfolding check_take ◌then◌
-  take_fault n e = take_refused n a (ap (check_take t seen m a) e)
+  pub take_9 : has l.high (row seen l.low) ≡ true → TakeMeets t seen m a l (Err (refusal LinkAgain a)) t2 seen2
+  unfolding check_take
+  take_9 g = take_refused (refusal LinkAgain a) (stop (not (has l.high (row seen l.low))) 9 a _ (ap not g))
 
-  module _ (l h w : ℕ) (e : f ≡ fields.Link l h w) where
-    linked_check : check_take t seen m a f ≡ (unless (not (has h (row seen l))) 9 a then unless (has_room t m) 16 0)
-    unfolding check_take ◌then◌
-    linked_check = ap (check_take t seen m a) e
+  pub take_16 : has l.high (row seen l.low) ≡ false → has_room t m ≡ false → TakeMeets t seen m a l (Err (refusal Space 0)) t2 seen2
+  unfolding check_take
+  take_16 g r = take_refused (refusal Space 0) (go (not (has l.high (row seen l.low))) 9 a _ (ap not g) ∙ last_stop (has_room t m) 16 0 r)
 
-    pub take_9 : has h (row seen l) ≡ true → TakeMeets t seen m a f (Fault 9 a) t2 seen2
-    take_9 g = take_refused 9 a (linked_check ∙ stop (not (has h (row seen l))) 9 a _ (ap not g))
-
-    pub take_16 : has h (row seen l) ≡ false → has_room t m ≡ false → TakeMeets t seen m a f (Fault 16 0) t2 seen2
-    take_16 g r = take_refused 16 0 (linked_check ∙ go (not (has h (row seen l))) 9 a _ (ap not g) ∙ last_stop (has_room t m) 16 0 r)
-
-    pub take_fine : has h (row seen l) ≡ false → has_room t m ≡ true → t2 ≡ put_link (link l h w) t m → seen2 ≡ marked seen l h
-        → TakeMeets t seen m a f (Count (m + 1)) t2 seen2
-    take_fine g r p q = record {
-      answer = sym (say_accepted _ _ (linked_check ∙ go (not (has h (row seen l))) 9 a _ (ap not g) ∙ last_go (has_room t m) 16 0 r));
-      lists = λ z. p ∙ ap (λ (x : Fields). put_link (fields_link x) t m) (sym e);
-      rows = λ z. q ∙ ap (λ (x : Fields). marked seen (fields_link x).low (fields_link x).high) (sym e);
-    }
+  pub take_fine : has l.high (row seen l.low) ≡ false → has_room t m ≡ true → t2 ≡ put_link l t m → seen2 ≡ marked seen l.low l.high
+      → TakeMeets t seen m a l (Ok (m + 1)) t2 seen2
+  unfolding check_take
+  take_fine g r p q = record {
+    answer = sym (say_accepted _ _ (go (not (has l.high (row seen l.low))) 9 a _ (ap not g) ∙ last_go (has_room t m) 16 0 r));
+    lists = λ z. p;
+    rows = λ z. q;
+  }
 
 -- ---- the words of a link line
 
-weight_not : (w : List ℕ) (v : ℕ) → v ≡ cond (is_weight w) (value w) 65536 → 65535 < v → is_weight w ≡ false
-unfolding is_weight
-weight_not w v e h = not_so (is_weight w) wrong
+weight_not : (w : List ℕ) (o : Option ℕ) → o ≡ cond (is_weight w) (Some (value w)) None → o ≡ None → is_weight w ≡ false
+weight_not w o e h = go_on (is_weight w) (sym h ∙ e)
   where
-    wrong : is_weight w ≡ true → ⊥
-    wrong t =
-        let f : v ≡ value w = e ∙ ap (λ (x : Bool). cond x (value w) 65536) t in
-        let k : value w ≤ 65535 = leb-true (value w) 65535 (and_right (all (in_range 48 57) w) _ t) in omega arith
+    go_on : (x : Bool) → None ≡ cond x (Some (value w)) None → x ≡ false
+    go_on true f = absurd cc
+    go_on false f = refl
 
-weight_is : (w : List ℕ) (v : ℕ) → v ≡ cond (is_weight w) (value w) 65536 → v ≤ 65535 → (is_weight w ≡ true) × (v ≡ value w)
-weight_is w v e h = pick (is_weight w) e
+weight_is : (w : List ℕ) (o : Option ℕ) (v : ℕ) → o ≡ cond (is_weight w) (Some (value w)) None → o ≡ Some v → (is_weight w ≡ true) × (v ≡ value w)
+weight_is w o v e h = pick (is_weight w) (sym h ∙ e)
   where
-    pick : (x : Bool) → v ≡ cond x (value w) 65536 → (x ≡ true) × (v ≡ value w)
-    pick true f = (refl, f)
-    pick false f = absurd (omega arith)
+    pick : (x : Bool) → Some v ≡ cond x (Some (value w)) None → (x ≡ true) × (v ≡ value w)
+    pick true f = (refl, cc)
+    pick false f = absurd cc
 
-module _ (N : List (List ℕ)) (x y w : List ℕ) (p : ℕ) (count : length N ≡ p) where
-  fields_refused : (k : ℕ) → ((a : ℕ) → check_fields N a x y w ≡ refused k a) → FieldsMeet N x y w (fields.Fault k)
+found_not : (N : List (List ℕ)) (x : List ℕ) → None ≡ found N x → known N x ≡ false
+unfolding found
+found_not N x e = pick (known N x) e
+  where
+    pick : (t : Bool) → None ≡ cond t (Some (number_of N x)) None → t ≡ false
+    pick true f = absurd cc
+    pick false f = refl
+
+found_is : (N : List (List ℕ)) (x : List ℕ) (a : ℕ) → Some a ≡ found N x → (known N x ≡ true) × (a ≡ number_of N x)
+unfolding found
+found_is N x a e = pick (known N x) e
+  where
+    pick : (t : Bool) → Some a ≡ cond t (Some (number_of N x)) None → (t ≡ true) × (a ≡ number_of N x)
+    pick true f = (refl, cc)
+    pick false f = absurd cc
+
+module _ (N : List (List ℕ)) (x y w : List ℕ) where
+  fields_refused : (k : Fault) → ((a : ℕ) → check_fields N a x y w ≡ refused (fault_no k) a) → FieldsMeet N x y w (Err k)
   fields_refused k e = record {
     checked = λ a. sym (e a);
-    given = λ a g. accepted_not k a (sym (e a) ∙ g);
+    given = λ a g. accepted_not _ a (sym (e a) ∙ g);
   }
 
-  module _ (a : ℕ) (ea : a ≡ number_of N x) where
-    pub fields_first : p ≤ a → FieldsMeet N x y w (fields.Fault 103)
-    unfolding check_fields known
-    fields_first h = fields_refused 103 (λ k. stop (known N x) 103 k _ (le-ltb (number_of N x) (length N) (omega arith)))
+  module _ (oa : Option ℕ) (ia : oa ≡ found N x) where
+    pub fields_first : oa ≡ None → FieldsMeet N x y w (Err UnknownPart)
+    unfolding check_fields
+    fields_first h = fields_refused UnknownPart (λ k. stop (known N x) 103 k _ (found_not N x (sym h ∙ ia)))
 
-    module _ (ha : a < p) (b : ℕ) (eb : b ≡ number_of N y) where
+    module _ (a : ℕ) (ha : oa ≡ Some a) (ob : Option ℕ) (ib : ob ≡ found N y) where
       known_a : known N x ≡ true
-      unfolding known
-      known_a = lt-ltb (number_of N x) (length N) (omega arith)
+      known_a = (found_is N x a (sym ha ∙ ia)).0
 
-      pub fields_second : p ≤ b → FieldsMeet N x y w (fields.Fault 103)
-      unfolding check_fields known
-      fields_second h = fields_refused 103 (λ k. go (known N x) 103 k _ known_a ∙ stop (known N y) 103 k _ (le-ltb (number_of N y) (length N) (omega arith)))
+      ea : a ≡ number_of N x
+      ea = (found_is N x a (sym ha ∙ ia)).1
 
-      module _ (hb : b < p) where
+      pub fields_second : ob ≡ None → FieldsMeet N x y w (Err UnknownPart)
+      unfolding check_fields
+      fields_second h = fields_refused UnknownPart (λ k. go (known N x) 103 k _ known_a ∙ stop (known N y) 103 k _ (found_not N y (sym h ∙ ib)))
+
+      module _ (b : ℕ) (hb : ob ≡ Some b) where
         known_b : known N y ≡ true
-        unfolding known
-        known_b = lt-ltb (number_of N y) (length N) (omega arith)
+        known_b = (found_is N y b (sym hb ∙ ib)).0
 
-        pub fields_6 : a ≡ b → FieldsMeet N x y w (fields.Fault 6)
+        eb : b ≡ number_of N y
+        eb = (found_is N y b (sym hb ∙ ib)).1
+
+        pub fields_6 : a ≡ b → FieldsMeet N x y w (Err LinkParts)
         unfolding check_fields
-        fields_6 h = fields_refused 6 (λ k. go (known N x) 103 k _ known_a ∙ go (known N y) 103 k _ known_b
+        fields_6 h = fields_refused LinkParts (λ k. go (known N x) 103 k _ known_a ∙ go (known N y) 103 k _ known_b
             ∙ stop (not (eqb (number_of N x) (number_of N y))) 6 k _ (ap not (eq-eqb (number_of N x) (number_of N y) (sym ea ∙ h ∙ eb))))
 
-        module _ (ne : a ≡ b → ⊥) (v : ℕ) (ev : v ≡ cond (is_weight w) (value w) 65536) where
+        module _ (ne : a ≡ b → ⊥) (o : Option ℕ) (eo : o ≡ cond (is_weight w) (Some (value w)) None) where
           unlike : not (eqb (number_of N x) (number_of N y)) ≡ true
           unlike = ap not (ne_eqb (number_of N x) (number_of N y) (λ q. ne (ea ∙ q ∙ sym eb)))
 
-          pub fields_104 : 65535 < v → FieldsMeet N x y w (fields.Fault 104)
+          pub fields_104 : o ≡ None → FieldsMeet N x y w (Err WeightForm)
           unfolding check_fields
-          fields_104 h = fields_refused 104 (λ k. go (known N x) 103 k _ known_a ∙ go (known N y) 103 k _ known_b
-              ∙ go (not (eqb (number_of N x) (number_of N y))) 6 k _ unlike ∙ stop (is_weight w) 104 k _ (weight_not w v ev h))
+          fields_104 h = fields_refused WeightForm (λ k. go (known N x) 103 k _ known_a ∙ go (known N y) 103 k _ known_b
+              ∙ go (not (eqb (number_of N x) (number_of N y))) 6 k _ unlike ∙ stop (is_weight w) 104 k _ (weight_not w o eo h))
 
-          module _ (hv : v ≤ 65535) where
-            pub fields_7 : v ≡ 0 → FieldsMeet N x y w (fields.Fault 7)
+          module _ (v : ℕ) (hv : o ≡ Some v) where
+            pub fields_7 : v ≡ 0 → FieldsMeet N x y w (Err NoWeight)
             unfolding check_fields
-            fields_7 h = let k = weight_is w v ev hv in
-                fields_refused 7 (λ a2. go (known N x) 103 a2 _ known_a ∙ go (known N y) 103 a2 _ known_b
+            fields_7 h = let k = weight_is w o v eo hv in
+                fields_refused NoWeight (λ a2. go (known N x) 103 a2 _ known_a ∙ go (known N y) 103 a2 _ known_b
                 ∙ go (not (eqb (number_of N x) (number_of N y))) 6 a2 _ unlike ∙ go (is_weight w) 104 a2 _ k.0
                 ∙ last_stop (not (eqb (value w) 0)) 7 a2 (ap not (eq-eqb (value w) 0 (sym k.1 ∙ h))))
 
             module _ (hz : v ≡ 0 → ⊥) where
               fields_pass : (a2 : ℕ) → check_fields N a2 x y w ≡ accepted
               unfolding check_fields
-              fields_pass a2 = let k = weight_is w v ev hv in
+              fields_pass a2 = let k = weight_is w o v eo hv in
                   go (known N x) 103 a2 _ known_a ∙ go (known N y) 103 a2 _ known_b
                   ∙ go (not (eqb (number_of N x) (number_of N y))) 6 a2 _ unlike ∙ go (is_weight w) 104 a2 _ k.0
                   ∙ last_go (not (eqb (value w) 0)) 7 a2 (ap not (ne_eqb (value w) 0 (λ q. hz (k.1 ∙ q))))
 
-              fields_give : (l h : ℕ) → l ≡ min a b → h ≡ max a b → FieldsMeet N x y w (fields.Link l h v)
+              pub fields_fine : (l : Row) → l.low ≡ min a b → l.high ≡ max a b → l.weight ≡ v → FieldsMeet N x y w (Ok l)
               unfolding link_given
-              fields_give l h el eh = record {
+              fields_fine l el eh ew = record {
                 checked = λ a2. sym (fields_pass a2);
                 given = λ a2 g.
-                    ap₂ (λ (i j : ℕ). link i j v) (el ∙ ap₂ min ea eb) (eh ∙ ap₂ max ea eb)
-                    ∙ ap (link (min (number_of N x) (number_of N y)) (max (number_of N x) (number_of N y))) (weight_is w v ev hv).1;
+                    ap₂ (λ (i j : ℕ). link i j l.weight) (el ∙ ap₂ min ea eb) (eh ∙ ap₂ max ea eb)
+                    ∙ ap (link (min (number_of N x) (number_of N y)) (max (number_of N x) (number_of N y))) (ew ∙ (weight_is w o v eo hv).1);
               }
 
-              pub fields_rising : a < b → FieldsMeet N x y w (fields.Link a b v)
-              fields_rising h = fields_give a b (omega arith) (omega arith)
-
-              pub fields_falling : b ≤ a → FieldsMeet N x y w (fields.Link b a v)
-              fields_falling h = fields_give b a (omega arith) (omega arith)
-
 -- what is found of a word of the line
-pub word_number : (N : List (List ℕ)) (l : List ℕ) (k : ℕ) (x : List ℕ) (a : ℕ) → x ≡ get_or (words l) k [] → (all (λ b. not (blank b)) x ≡ true → a ≡ number_of N x)
-    → a ≡ number_of N (get_or (words l) k [])
-word_number N l k x a e f = f (ap (all (λ b. not (blank b))) e ∙ word_plain l k) ∙ ap (number_of N) e
+pub word_found : (N : List (List ℕ)) (l : List ℕ) (k : ℕ) (x : List ℕ) (o : Option ℕ) → x ≡ get_or (words l) k []
+    → (all (λ b. not (blank b)) x ≡ true → o ≡ found N x)
+    → o ≡ found N (get_or (words l) k [])
+word_found N l k x o e f = f (ap (all (λ b. not (blank b))) e ∙ word_plain l k) ∙ ap (found N) e
 
-pub word_weight : (x w : List ℕ) (v : ℕ) → x ≡ w → v ≡ cond (is_weight x) (value x) 65536 → v ≡ cond (is_weight w) (value w) 65536
-word_weight x w v e f = f ∙ ap (λ (z : List ℕ). cond (is_weight z) (value z) 65536) e
+pub word_weight : (x w : List ℕ) (o : Option ℕ) → x ≡ w → o ≡ cond (is_weight x) (Some (value x)) None → o ≡ cond (is_weight w) (Some (value w)) None
+word_weight x w o e f = f ∙ ap (λ (z : List ℕ). cond (is_weight z) (Some (value z)) None) e
 
 -- ---- a link line as a whole
 
@@ -173,12 +184,6 @@ spread true true false b4 b5 a v = refl
 spread true true true false b5 a v = refl
 spread true true true true false a v = refl
 spread true true true true true a v = refl
-
--- what comes behind a check turns only on its being passed
-then_same : (u v w : Verdict) → (u ≡ accepted → v ≡ w) → (u then v) ≡ (u then w)
-unfolding ◌then◌
-then_same accepted v w h = h refl
-then_same (refused n a) v w h = refl
 
 linked_turn : (L : List Link) (q r : ℕ) → linked L q r ≡ linked L r q
 linked_turn L q r = iff (linked L q r) (linked L r q) (linked_sym L q r) (linked_sym L r q)
@@ -198,7 +203,7 @@ fields_known N a x y w e = (
   ltb-true (number_of N y) (length N) (unless_passed (known N y) 103 a (then_left _ _ (then_right (unless (known N x) 103 a) _ e))),
 )
 
-module _ (N : List (List ℕ)) (L : List Link) (a : ℕ) (x y w : List ℕ) (t : LinkLists) (seen : List ℕ) (m : ℕ) (f : Fields)
+module _ (N : List (List ℕ)) (L : List Link) (a : ℕ) (x y w : List ℕ) (t : LinkLists) (seen : List ℕ) (m : ℕ) (f : Result Row Fault)
     (few : length N ≤ 64) (near : Neighbours L seen) (count : length L ≡ m) (meets : FieldsMeet N x y w f) where
   abbrev given : Link
   given = link_given N x y w
@@ -211,50 +216,64 @@ module _ (N : List (List ℕ)) (L : List Link) (a : ℕ) (x y w : List ℕ) (t :
   unfolding link_given
   high_small e = let k = fields_known N a x y w e in omega (arith, k.0, k.1)
 
-  seen_linked : check_fields N a x y w ≡ accepted → has (fields_link f).high (row seen (fields_link f).low) ≡ linked L (number_of N x) (number_of N y)
+  seen_linked : check_fields N a x y w ≡ accepted → has given.high (row seen given.low) ≡ linked L (number_of N x) (number_of N y)
   unfolding link_given
-  seen_linked e =
-      ap (λ (l : Link). has l.high (row seen l.low)) (meets.given a e)
-      ∙ near.near given.low given.high (low_small e) (high_small e) ∙ linked_ends L (number_of N x) (number_of N y)
+  seen_linked e = near.near given.low given.high (low_small e) (high_small e) ∙ linked_ends L (number_of N x) (number_of N y)
 
-  take_check : check_link t N L a (link_said x y w) ≡ check_take t seen m a f
+  -- the line's own words, then the link that they give
+  line_check : check_link t N L a (link_said x y w) ≡ (check_fields N a x y w then check_take t seen m a given)
   unfolding check_link check_take check_fields
-  take_check =
+  line_check =
       spread (known N x) (known N y) (not (eqb (number_of N x) (number_of N y))) (is_weight w) (not (eqb (value w) 0)) a _
       ∙ then_same (check_fields N a x y w) _ _
       (λ e. ap₂ (λ (b : Bool) (n : ℕ). unless (not b) 9 a then unless (has_room t n) 16 0) (sym (seen_linked e)) count)
-      ∙ ap (λ (v : Verdict). v then unless (not (has (fields_link f).high (row seen (fields_link f).low))) 9 a then unless (has_room t m) 16 0) (sym (meets.checked a))
 
-  fields_passed : check_link t N L a (link_said x y w) ≡ accepted → check_fields N a x y w ≡ accepted
-  unfolding check_take
-  fields_passed e = sym (meets.checked a) ∙ then_left (fields_check f a) _ (sym take_check ∙ e)
+  -- a fault in its words
+  pub link_stop : (s : Said) (k : Fault) (t2 : LinkLists) (seen2 : List ℕ) → link_said x y w ≡ s → f ≡ Err k → LinkMeets N L a s t (Err (refusal k a)) t2 seen2
+  link_stop s k t2 seen2 e h = subst (λ (z : Said). LinkMeets N L a z t (Err (refusal k a)) t2 seen2) e
+      (record { answer = sym (say_refused _ _ _ _ v); lists = λ g. accepted_not _ _ (sym v ∙ g); rows = λ g. accepted_not _ _ (sym v ∙ g) })
+    where
+      v : check_link t N L a (link_said x y w) ≡ refused (fault_no k) a
+      v = line_check ∙ then_stop _ _ _ _ (sym (meets.checked a) ∙ ap (λ (z : Result Row Fault). fields_check z a) h)
 
-  link_said_lem : (r : Step) (t2 : LinkLists) (seen2 : List ℕ) → TakeMeets t seen m a f r t2 seen2 → LinkMeets N L a (link_said x y w) t r t2 seen2
-  link_said_lem r t2 seen2 k = record {
-    answer = k.answer ∙ ap₂ say_of (sym take_check) (let e : m + 1 ≡ length (L ++ (given ∷ [])) = omega (arith, length-append L (given ∷ [])) in e);
-    lists = λ e. k.lists (sym take_check ∙ e) ∙ ap₂ (λ (l : Link) (n : ℕ). put_link l t n) (meets.given a (fields_passed e)) (sym count);
-    rows = λ e. let p = fields_passed e in
-        subst⁻¹ (Neighbours (L ++ (given ∷ [])))
-        (k.rows (sym take_check ∙ e) ∙ ap (λ (l : Link). marked seen l.low l.high) (meets.given a p))
-        (near_more L seen given near (low_small p) (high_small p));
-  }
+  -- its words give the link l
+  module _ (l : Row) (h : f ≡ Ok l) where
+    fields_passed : check_fields N a x y w ≡ accepted
+    fields_passed = sym (meets.checked a) ∙ ap (λ (z : Result Row Fault). fields_check z a) h
 
-  pub link_line : (s : Said) (r : Step) (t2 : LinkLists) (seen2 : List ℕ) → link_said x y w ≡ s → TakeMeets t seen m a f r t2 seen2 → LinkMeets N L a s t r t2 seen2
-  link_line s r t2 seen2 e k = subst (λ (z : Said). LinkMeets N L a z t r t2 seen2) e (link_said_lem r t2 seen2 k)
+    is_given : as_link l ≡ given
+    is_given = ap fields_link (sym h) ∙ meets.given a fields_passed
+
+    take_check : check_link t N L a (link_said x y w) ≡ check_take t seen m a (as_link l)
+    take_check = line_check ∙ then_go _ _ fields_passed ∙ ap (check_take t seen m a) (sym is_given)
+
+    link_said_lem : (r : Answer) (t2 : LinkLists) (seen2 : List ℕ) → TakeMeets t seen m a (as_link l) r t2 seen2
+        → LinkMeets N L a (link_said x y w) t r t2 seen2
+    link_said_lem r t2 seen2 k = record {
+      answer = k.answer ∙ ap₂ say_of (sym take_check) (let e : m + 1 ≡ length (L ++ (given ∷ [])) = omega (arith, length-append L (given ∷ [])) in e);
+      lists = λ e. k.lists (sym take_check ∙ e) ∙ ap₂ (λ (z : Link) (n : ℕ). put_link z t n) is_given (sym count);
+      rows = λ e. subst⁻¹ (Neighbours (L ++ (given ∷ [])))
+          (k.rows (sym take_check ∙ e) ∙ ap (λ (z : Link). marked seen z.low z.high) is_given)
+          (near_more L seen given near (low_small fields_passed) (high_small fields_passed));
+    }
+
+    pub link_line : (s : Said) (r : Answer) (t2 : LinkLists) (seen2 : List ℕ) → link_said x y w ≡ s → TakeMeets t seen m a (as_link l) r t2 seen2
+        → LinkMeets N L a s t r t2 seen2
+    link_line s r t2 seen2 e k = subst (λ (z : Said). LinkMeets N L a z t r t2 seen2) e (link_said_lem r t2 seen2 k)
 
 -- other lines leave the links
 module _ (N : List (List ℕ)) (L : List Link) (a : ℕ) (s : Said) (t : LinkLists) (seen : List ℕ) (m : ℕ) (near : Neighbours L seen) (count : length L ≡ m) where
-  pub link_silent : silent ≡ s → LinkMeets N L a s t (Count m) t seen
+  pub link_silent : silent ≡ s → LinkMeets N L a s t (Ok m) t seen
   unfolding check_link
-  link_silent e = subst (λ (z : Said). LinkMeets N L a z t (Count m) t seen) e
+  link_silent e = subst (λ (z : Said). LinkMeets N L a z t (Ok m) t seen) e
       (record { answer = ap counts (sym count) ∙ sym (say_accepted accepted _ refl); lists = λ g. refl; rows = λ g. near })
 
-  pub link_part : (x : List ℕ) → part_said x ≡ s → LinkMeets N L a s t (Count m) t seen
+  pub link_part : (x : List ℕ) → part_said x ≡ s → LinkMeets N L a s t (Ok m) t seen
   unfolding check_link
-  link_part x e = subst (λ (z : Said). LinkMeets N L a z t (Count m) t seen) e
+  link_part x e = subst (λ (z : Said). LinkMeets N L a z t (Ok m) t seen) e
       (record { answer = ap counts (sym count) ∙ sym (say_accepted accepted _ refl); lists = λ g. refl; rows = λ g. near })
 
-  pub link_neither : neither ≡ s → LinkMeets N L a s t (Count m) t seen
+  pub link_neither : neither ≡ s → LinkMeets N L a s t (Ok m) t seen
   unfolding check_link
-  link_neither e = subst (λ (z : Said). LinkMeets N L a z t (Count m) t seen) e
+  link_neither e = subst (λ (z : Said). LinkMeets N L a z t (Ok m) t seen) e
       (record { answer = ap counts (sym count) ∙ sym (say_accepted accepted _ refl); lists = λ g. refl; rows = λ g. near })

@@ -1,38 +1,38 @@
 -- Names, padded to eight bytes: their form, their bytes, and the number of a name. Assumes nothing.
 use mathlib.Core.Path.{◌≡◌, refl, sym, ap, ◌∙◌}
-use mathlib.Core.Bool.{Bool, true, false, not, ◌&&◌, ◌||◌}
+use mathlib.Core.Bool.{Bool, true, false, cond, not, ◌&&◌, ◌||◌}
+use mathlib.Core.Logic.{◌⊎◌, inl, inr}
 use mathlib.Core.List.{List, [], ◌∷◌, ◌++◌, append_assoc, append-nil}
-use Prim.Native.Nat.{ℕ, zero, suc, ◌+◌, ◌*◌, ◌<◌, ◌≤◌}
+use Prim.Native.Nat.{ℕ, zero, suc, ◌+◌, ◌*◌, ◌-◌, ◌<◌, ◌≤◌}
 use native.Mathlib.Omega.{arith}
 use native.Mathlib.Numerals.{add-one}
-use lib.Dec.{eqb, leb, leb-zero, leb-suc-zero, leb-suc-suc}
+use lib.Dec.{eqb, leb, ltb, leb-zero, leb-suc-zero, leb-suc-suc}
 use lib.ListN.{length, get_or, take, drop, set, drop_of_length-le, length-append, take-append-drop}
 use lib.Seq.{drop-cons, drop-drop, set_at, append_snoc, take_at, drop_at}
-use borrow.Author.Tests.{le-leb, lt-leb, leb-true, eq-eqb, ne_eqb, not-true}
+use borrow.Author.Tests.{lt-ltb, le-ltb, le-leb, lt-leb, leb-true, eq-eqb, eqb-true, ne_eqb, not-true}
+use Rattle.std.specs.Prelude.{nat_eq, ◌==◌, Option, Some, None, IfSome, MatchOption}
+use Rattle.std.specs.List.{list_all, starts_with}
 use Rattle.sets.specs.Lists.{all, same}
-use Rattle.sets.proofs.Tests.{no_and, not_so, and_intro, and_left, and_right, never, or_left}
+use Rattle.sets.proofs.Tests.{iff, no_and, not_so, and_intro, and_left, and_right, never, or_left}
 use Rattle.percolation.specs.Ranges.{in_range}
 use Rattle.part_names.specs.Names.{visible}
 use Rattle.part_names.proofs.Form.{visible_range}
 use Rattle.words.specs.Lines.{blank}
-use Rattle.text.specs.Reading.{is_name, padded, name_bytes, number_of}
-use Rattle.text.specs.Model.{Held}
+use Rattle.text.specs.Reading.{is_name, padded, name_bytes, number_of, known}
+use Rattle.text.specs.Model.{Held, found}
 use Rattle.sets.proofs.ListLaws.{all_of, get_d_member, same_self, same_of}
-use Rattle.text.proofs.Bytes.{all_sub}
+use Rattle.text.proofs.Bytes.{all_sub, all_list, part_take}
 
 -- ---- the form of a name
 
-pub name_none : (x : List ℕ) → length x ≡ 0 → is_name x ≡ false
+pub name_else : (x : List ℕ) → (8 < length x) ⊎ (length x < 1) → false ≡ is_name x
 unfolding is_name
-name_none x h = rw h refl
+name_else x (inl h) = sym (rw (lt-leb (length x) 8 h, no_and (leb 1 (length x))) refl)
+name_else x (inr h) = sym (rw (lt-leb 1 (length x) h) refl)
 
-pub name_long : (x : List ℕ) → 8 < length x → is_name x ≡ false
+pub name_then : (x : List ℕ) (r : Bool) → 1 ≤ length x → length x ≤ 8 → r ≡ list_all visible x → r ≡ is_name x
 unfolding is_name
-name_long x h = rw (lt-leb (length x) 8 h, no_and (leb 1 (length x))) refl
-
-pub name_size : (x : List ℕ) → 1 ≤ length x → length x ≤ 8 → is_name x ≡ all visible (drop 0 x)
-unfolding is_name
-name_size x h k = rw (le-leb 1 (length x) h, le-leb (length x) 8 k) refl
+name_then x r h k e = e ∙ all_list visible x ∙ sym (rw (le-leb 1 (length x) h, le-leb (length x) 8 k) refl)
 
 -- ---- padded bytes
 
@@ -42,20 +42,41 @@ padded_length zero x = refl
 padded_length (suc n) [] = ap suc (padded_length n [])
 padded_length (suc n) (b ∷ x) = ap suc (padded_length n x)
 
-pub padded_at : (n : ℕ) (x : List ℕ) (i : ℕ) → i < n → get_or (padded n x) i 0 ≡ get_or x i 32
-unfolding padded
-padded_at zero x i h = absurd (omega arith)
-padded_at (suc n) [] zero h = refl
-padded_at (suc n) [] (suc i) h = padded_at n [] i (omega arith)
-padded_at (suc n) (b ∷ x) zero h = refl
-padded_at (suc n) (b ∷ x) (suc i) h = padded_at n x i (omega arith)
-
 padded_suc : (n : ℕ) (x : List ℕ) → padded (suc n) x ≡ padded n x ++ (get_or x n 32 ∷ [])
 unfolding padded
 padded_suc zero [] = refl
 padded_suc zero (b ∷ x) = refl
 padded_suc (suc n) [] = ap (λ (l : List ℕ). 32 ∷ l) (padded_suc n [])
 padded_suc (suc n) (b ∷ x) = ap (λ (l : List ℕ). b ∷ l) (padded_suc n x)
+
+eqb_turn : (a b : ℕ) → eqb a b ≡ eqb b a
+eqb_turn a b = iff (eqb a b) (eqb b a) (λ e. eq-eqb b a (sym (eqb-true a b e))) (λ e. eq-eqb a b (sym (eqb-true b a e)))
+
+and_turn : (a b c d e f : Bool) → a ≡ b → (c && d) ≡ (e && f) → ((a && c) && d) ≡ (e && (b && f))
+and_turn true b c d e f p q = q ∙ ap (λ (t : Bool). e && (t && f)) p
+and_turn false b c d true f p q = ap (λ (t : Bool). t && f) p
+and_turn false b c d false f p q = refl
+
+-- a slot that starts with the name, and has spaces behind it
+pub slot_parts : (s x : List ℕ)
+    → (starts_with nat_eq s x && list_all (λ b. b == 32) (drop (length x) s)) ≡ (leb (length x) (length s) && same s (padded (length s) x))
+unfolding padded same
+slot_parts [] [] = sym (rw (leb-zero 0) refl)
+slot_parts [] (c ∷ x) = sym (rw (leb-suc-zero (length x)) refl)
+slot_parts (b ∷ s) [] =
+    let rest : list_all (λ b. b == 32) s ≡ same s (padded (length s) []) =
+    slot_parts s [] ∙ ap (λ (t : Bool). t && same s (padded (length s) [])) (leb-zero (length s)) in
+    ap (λ (t : Bool). eqb b 32 && t) rest ∙ sym (ap (λ (t : Bool). t && (eqb b 32 && same s (padded (length s) []))) (leb-zero (suc (length s))))
+slot_parts (b ∷ s) (c ∷ x) =
+    and_turn (eqb c b) (eqb b c) _ _ (leb (length x) (length s)) _ (eqb_turn c b) (slot_parts s x)
+    ∙ ap (λ (t : Bool). t && (eqb b c && same s (padded (length s) x))) (sym (leb-suc-suc (length x) (length s)))
+
+pub slot_then : (s x : List ℕ) (a r : Bool) → a ≡ starts_with nat_eq s x → a ≡ true → r ≡ list_all (λ b. b == 32) (drop (length x) s)
+    → r ≡ leb (length x) (length s) && same s (padded (length s) x)
+slot_then s x a r e t f = f ∙ ap (λ (b : Bool). b && list_all (λ b. b == 32) (drop (length x) s)) (sym t ∙ e) ∙ slot_parts s x
+
+pub slot_else : (s x : List ℕ) (a : Bool) → a ≡ starts_with nat_eq s x → a ≡ false → a ≡ leb (length x) (length s) && same s (padded (length s) x)
+slot_else s x a e t = t ∙ ap (λ (b : Bool). b && list_all (λ b. b == 32) (drop (length x) s)) (sym t ∙ e) ∙ slot_parts s x
 
 -- a slot whose first i bytes are written
 pub slot_none : (x s : List ℕ) → s ≡ padded 0 x ++ drop 0 s
@@ -170,28 +191,20 @@ held_name N q h l = all_of is_name N h (get_d_member N q [] l)
 
 -- ---- the number of a name
 
-pub number_here : (N : List (List ℕ)) (x : List ℕ) (q : ℕ) → q < length N → same (get_or N q []) x ≡ true → number_of (drop q N) x ≡ 0
+-- the first that has it
+number_first : (N : List (List ℕ)) (x : List ℕ) (i : ℕ) → i < length N → same (get_or N i []) x ≡ true
+    → ((k : ℕ) → k < i → same (get_or N k []) x ≡ false) → number_of N x ≡ i
 unfolding number_of
-number_here N x q h e = ap (λ (l : List (List ℕ)). number_of l x) (drop-cons N q [] h) ∙ rw (number_of, e) refl
+number_first [] x i h e f = absurd (omega arith)
+number_first (y ∷ N) x zero h e f = rw (number_of, e) refl
+number_first (y ∷ N) x (suc i) h e f =
+    rw (number_of, f 0 (omega arith)) (ap suc (number_first N x i (omega arith) e (λ k l. f (suc k) (omega arith))))
 
-pub number_past : (N : List (List ℕ)) (x : List ℕ) (q : ℕ) → q < length N → same (get_or N q []) x ≡ false → number_of (drop q N) x ≡ suc (number_of (drop (q + 1) N) x)
+-- none has it
+number_none : (N : List (List ℕ)) (x : List ℕ) → ((k : ℕ) → k < length N → same (get_or N k []) x ≡ false) → number_of N x ≡ length N
 unfolding number_of
-number_past N x q h e = ap (λ (l : List (List ℕ)). number_of l x) (drop-cons N q [] h) ∙ rw (number_of, e, add-one q) refl
-
-pub number_end : (N : List (List ℕ)) (x : List ℕ) (q : ℕ) → length N ≤ q → number_of (drop q N) x ≡ 0
-unfolding number_of
-number_end N x q h = ap (λ (l : List (List ℕ)). number_of l x) (drop_of_length-le N h)
-
-pub number_most : (N : List (List ℕ)) (x : List ℕ) → number_of N x ≤ length N
-unfolding number_of
-number_most [] x = omega arith
-number_most (y ∷ N) x = go (same y x) (number_most N x)
-  where
-    go : (t : Bool) → number_of N x ≤ length N → elim t [ true ↦ 0 | false ↦ suc (number_of N x) ] ≤ suc (length N)
-    go true h = omega arith
-    go false h = omega arith
-
--- ---- a name looked up among those that the bytes hold
+number_none [] x f = refl
+number_none (y ∷ N) x f = rw (number_of, f 0 (omega arith)) (ap suc (number_none N x (λ k l. f (suc k) (omega arith))))
 
 -- what slot q answers
 pub slot_answers : (N : List (List ℕ)) (names x s : List ℕ) (q : ℕ) (r : Bool) → Held N names → q < length N → all (λ b. not (blank b)) x ≡ true
@@ -201,22 +214,34 @@ slot_answers N names x s q r h l p e f =
     ∙ ap (λ (n : ℕ). leb (length x) n && same (padded 8 (get_or N q [])) (padded n x)) (padded_length 8 (get_or N q []))
     ∙ slot_same (get_or N q []) x (held_name N q h.named l) p
 
-module _ (names x : List ℕ) (p : ℕ) where
-  -- the names before q are others
-  abbrev pub Looked : ℕ → Type 0
-  Looked q = (N : List (List ℕ)) → Held N names → length N ≡ p → all (λ b. not (blank b)) x ≡ true → number_of N x ≡ q + number_of (drop q N) x
+-- whether slot q holds the name
+abbrev pub holds : List ℕ → List ℕ → ℕ → Bool
+holds names x q =
+    let s : List ℕ = take (8 * q + 8 - 8 * q) (drop (8 * q) names) in
+    leb (length x) (length s) && same s (padded (length s) x)
 
-  pub looked_none : Looked 0
-  looked_none N h l e = omega arith
+module _ (names x : List ℕ) (p : ℕ) (r : Option ℕ)
+    (looked : MatchOption r ((k : ℕ) → 0 ≤ k → k < p → holds names x k ≡ false)
+    (λ i. (0 ≤ i) × (i < p) × (holds names x i ≡ true) × ((k : ℕ) → 0 ≤ k → k < i → holds names x k ≡ false))) where
+  pub looked_below : IfSome r (λ q. q < p)
+  looked_below = elim r as (λ o. MatchOption o ((k : ℕ) → 0 ≤ k → k < p → holds names x k ≡ false)
+      (λ i. (0 ≤ i) × (i < p) × (holds names x i ≡ true) × ((k : ℕ) → 0 ≤ k → k < i → holds names x k ≡ false))
+      → IfSome o (λ q. q < p)) [ None ↦ (λ m. tt) | Some i ↦ (λ m. m.1) ] looked
 
-  module _ (s : List ℕ) (q : ℕ) (r : Bool) (l : q < p) (e : s ≡ take 8 (drop (8 * q) names)) (f : r ≡ leb (length x) (length s) && same s (padded (length s) x)) (looked : Looked q) where
-    pub looked_here : r ≡ true → (N : List (List ℕ)) → Held N names → length N ≡ p → all (λ b. not (blank b)) x ≡ true → q ≡ number_of N x
-    looked_here t N h k b =
-        let m = number_here N x q (omega arith) (sym (slot_answers N names x s q r h (omega arith) b e f) ∙ t) in omega (arith, looked N h k b)
+  pub looked_first : (N : List (List ℕ)) → Held N names → length N ≡ p → all (λ b. not (blank b)) x ≡ true → r ≡ found N x
+  unfolding found known
+  looked_first N h l b = go r looked
+    where
+      here : (q : ℕ) → q < p → holds names x q ≡ same (get_or N q []) x
+      here q k = slot_answers N names x _ q _ h (omega arith) b (part_take (8 * q) 8 names) refl
 
-    pub looked_past : r ≡ false → Looked (q + 1)
-    looked_past t N h k b =
-        let m = number_past N x q (omega arith) (sym (slot_answers N names x s q r h (omega arith) b e f) ∙ t) in omega (arith, looked N h k b)
-
-  pub looked_end : (q : ℕ) → p ≤ q → q ≤ p → Looked q → (N : List (List ℕ)) → Held N names → length N ≡ p → all (λ b. not (blank b)) x ≡ true → p ≡ number_of N x
-  looked_end q l g looked N h k b = let m = number_end N x q (omega arith) in omega (arith, looked N h k b)
+      go : (o : Option ℕ)
+          → MatchOption o ((k : ℕ) → 0 ≤ k → k < p → holds names x k ≡ false)
+          (λ i. (0 ≤ i) × (i < p) × (holds names x i ≡ true) × ((k : ℕ) → 0 ≤ k → k < i → holds names x k ≡ false))
+          → o ≡ cond (ltb (number_of N x) (length N)) (Some (number_of N x)) None
+      go None m =
+          let e = number_none N x (λ k j. sym (here k (omega arith)) ∙ m k (omega arith) (omega arith)) in
+          sym (rw (le-ltb (number_of N x) (length N) (omega (arith, e))) refl)
+      go (Some i) m =
+          let e = number_first N x i (omega (arith, m.1)) (sym (here i m.1) ∙ m.2) (λ k j. sym (here k (omega (arith, m.1))) ∙ m.3 k (omega arith) j) in
+          ap (λ (n : ℕ). Some n) (sym e) ∙ sym (rw (lt-ltb (number_of N x) (length N) (omega (arith, e, m.1))) refl)

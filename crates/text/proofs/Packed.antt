@@ -22,18 +22,20 @@ use Rattle.link_order.proofs.Sorted.{sort_legal, sort_length}
 use Rattle.part_names.specs.Names as field
 use Rattle.part_names.proofs.Form.{all_names}
 use Rattle.sheet.specs.Sheet.{list_of}
-use Rattle.sheet.specs.Answers.{holds}
+use Rattle.sheet.specs.Answers.{holds, sheet_says}
 use Rattle.sheet.specs.Network.{Network, network}
 use Rattle.sheet.proofs.Lists.{list_of_length, list_of_at}
 use Rattle.sheet_writer.specs.Writing as net
 use Rattle.sheet_writer.proofs.Sound.{network_passes}
 use Rattle.words.specs.Lines.{Line, lines_of, line_says, Said, silent, part_said, link_said, neither}
-use Rattle.text.specs.declared.Text.{Text}
-use Rattle.text.specs.declared.Text.TheVariants.{Fine}
-use Rattle.text.specs.Reading.{is_name, padded, name_bytes, check_part, more_parts, check_parts, parts_after, parts_of, known, number_of, is_weight, value, link_given, check_link, more_links, check_links, links_after, text_links, check_text, text_says, text_say, TextMeets}
+use Rattle.std.specs.Prelude.{Result, Ok}
+use Rattle.answers.specs.declared.Refusal.{Refusal}
+use Rattle.sheet.specs.declared.Counts.{Counts}
+use Rattle.text.specs.Reading.{is_name, padded, name_bytes, check_part, more_parts, check_parts, parts_after, parts_of, known, number_of, is_weight, value, link_given, check_link, more_links, check_links, links_after, text_links, check_text, text_say, TextMeets}
 use Rattle.text.proofs.Names.{bytes_length, bytes_at_lem, held_name, padded_once}
 use Rattle.text.proofs.Pass1.{more_named}
 use Rattle.text.proofs.LinkLaws.{linked_ends}
+use Rattle.text.proofs.Whole.{counts_of}
 
 -- ---- names
 
@@ -246,9 +248,10 @@ front : (l old : List ℕ) (L : List Link) (f : Link → ℕ) (m : ℕ) → l �
 front l old L f m e h = ap (take m) e ∙ take_at (map f L) (drop (length L) old) m (length-map L f ∙ sym h)
 
 -- the first 8 * p bytes of the names and the first m entries of the lists are a network that the writer accepts
-module _ (text names names2 : List ℕ) (t t2 : LinkLists) (r : Text) (p m : ℕ) (meets : TextMeets text names t r names2 t2) (fine : r ≡ Fine p m) where
+module _ (text names names2 : List ℕ) (t t2 : LinkLists) (r : Result Counts Refusal) (p m : ℕ)
+    (meets : TextMeets text names t r names2 t2) (fine : r ≡ Ok (counts_of p m)) where
   told : (check_text text (length names) t ≡ accepted) × (p ≡ length (parts_of text)) × (m ≡ length (text_links text))
-  told = said_fine _ text p m (ap text_says (sym fine) ∙ meets.answer)
+  told = said_fine _ text p m (ap sheet_says (sym fine) ∙ meets.answer)
 
   pub left_network : network (take (8 * p) names2) (take m t2.lower) (take m t2.higher) (take m t2.weights) ≡ text_network_lem text
   unfolding with_links

@@ -1,27 +1,28 @@
 -- Pass 1: what holds of the names after some lines, and of the answer at its end. Assumes nothing.
 use mathlib.Core.Path.{◌≡◌, refl, sym, ap, ◌∙◌}
-use mathlib.Core.Bool.{true}
+use mathlib.Core.Bool.{Bool, true, not, ◌&&◌}
 use mathlib.Core.List.{List, [], ◌∷◌, ◌++◌}
-use Prim.Native.Nat.{ℕ, suc, ◌+◌, ◌*◌, ◌-◌, ◌<◌, ◌≤◌}
+use Prim.Native.Nat.{ℕ, zero, suc, ◌+◌, ◌*◌, ◌-◌, ◌≤◌}
 use native.Mathlib.Omega.{arith}
 use lib.Dec.{eqb, leb}
 use lib.ListN.{length, take, drop, length-append}
 use lib.Seq.{take_at, drop_at, drop-drop}
-use borrow.Author.Tests.{le-leb, leb-true}
+use borrow.Author.Tests.{le-leb, leb-true, ne_eqb}
 use Rattle.answers.specs.Verdict.{accepted, refused, ◌then◌, unless}
 use Rattle.answers.specs.Answers.{counts}
-use Rattle.answers.proofs.Laws.{last_go, say_accepted, say_refused, accepted_not, then_left, then_right, then_stop, then_go, unless_passed, said_count, said_refused}
+use Rattle.answers.proofs.Laws.{say_accepted, say_refused, accepted_not, then_left, then_right, then_stop, then_go, unless_passed, said_count, said_refused}
 use Rattle.sets.specs.Lists.{all}
 use Rattle.sets.proofs.ListLaws.{all_more}
 use Rattle.sets.proofs.Tests.{and_intro, and_right}
 use Rattle.percolation.specs.Ranges.{narrow_count}
-use Rattle.words.specs.Lines.{line, lines_of, words, words_say, Said, silent, part_said, link_said, neither, leading}
-use Rattle.text.specs.declared.Step.{Step}
-use Rattle.text.specs.declared.Step.TheVariants.{Count, Fault}
+use Rattle.words.specs.Lines.{Line, line, lines_of, words, words_say, Said, silent, part_said, link_said, neither}
+use Rattle.std.specs.Prelude.{Ok, Err}
+use Rattle.answers.specs.Answers.{Answer, says}
+use Rattle.answers.specs.Faults.{number_of as fault_no}
+use Rattle.answers.specs.declared.Refusal.{Refusal}
 use Rattle.text.specs.Reading.{is_name, name_bytes, check_part, more_parts, check_parts, parts_after, parts_of}
-use Rattle.text.specs.Model.{step_says, Held, with_names, PartMeets, check_names, PartsMeet}
+use Rattle.text.specs.Model.{Held, with_names, PartMeets, check_names, PartsMeet}
 use Rattle.text.proofs.Names.{bytes_length}
-use Rattle.text.proofs.Rest.{rest_of, rest_all, rest_end, bytes_of, Next, rest_next, rest_same}
 
 -- ---- names written over names
 
@@ -70,17 +71,9 @@ more_few n N a (part_said x) e h =
 more_few n N a (link_said x y w) e h = h
 more_few n N a neither e h = h
 
-parts_idle : (n : ℕ) (N : List (List ℕ)) (a : ℕ) → check_parts n N (line a [] ∷ []) ≡ check_parts n N []
-unfolding check_parts
-parts_idle n N a = refl
+-- ---- the names after some lines; the lines R are to come
 
-after_idle : (N : List (List ℕ)) (a : ℕ) → parts_after N (line a [] ∷ []) ≡ parts_after N []
-unfolding parts_after
-after_idle N a = refl
-
--- ---- the names after the lines up to a place
-
-pub record PartsSoFar (text names0 names : List ℕ) (p at : ℕ) : Type 0 where
+pub record PartsSoFar (text names0 names : List ℕ) (p : ℕ) (R : List Line) : Type 0 where
   pub N : List (List ℕ)
   pub count : length N ≡ p
   pub room : 8 * p ≤ length names
@@ -88,12 +81,12 @@ pub record PartsSoFar (text names0 names : List ℕ) (p at : ℕ) : Type 0 where
   pub size : length names ≡ length names0
   pub stands : names ≡ with_names N names0
   pub named : all is_name N ≡ true
-  pub checks : check_parts (length names0) [] (lines_of text) ≡ check_parts (length names0) N (rest_of text at)
-  pub parts : parts_of text ≡ parts_after N (rest_of text at)
+  pub checks : check_parts (length names0) [] (lines_of text) ≡ check_parts (length names0) N R
+  pub parts : parts_of text ≡ parts_after N R
 
-pub parts_none : (text names : List ℕ) → PartsSoFar text names names 0 0
+pub parts_none : (text names : List ℕ) (R : List Line) → R ≡ lines_of text → PartsSoFar text names names 0 R
 unfolding name_bytes all parts_of
-parts_none text names = record {
+parts_none text names R e = record {
   N = [];
   count = refl;
   room = omega arith;
@@ -101,36 +94,33 @@ parts_none text names = record {
   size = refl;
   stands = refl;
   named = refl;
-  checks = ap (check_parts (length names) []) (rest_all text);
-  parts = ap (parts_after []) (rest_all text);
+  checks = ap (check_parts (length names) []) (sym e);
+  parts = ap (parts_after []) (sym e);
 }
 
-pub parts_held : (text names0 names : List ℕ) (p at : ℕ) (f : PartsSoFar text names0 names p at) → Held f.N names
-parts_held text names0 names p at f = with_held f.N names0 names f.stands f.named
+pub parts_held : (text names0 names : List ℕ) (p : ℕ) (R : List Line) (f : PartsSoFar text names0 names p R) → Held f.N names
+parts_held text names0 names p R f = with_held f.N names0 names f.stands f.named
 
-module _ (text names0 names names2 : List ℕ) (p at e : ℕ) (r : Step) (f : PartsSoFar text names0 names p at) (l : at < length text)
-    (d : e ≡ at + leading (eqb 10) (drop at text)) (m : PartMeets f.N at (words_say (words (bytes_of text at e))) names r names2) where
+module _ (text names0 names names2 : List ℕ) (p : ℕ) (R R2 : List Line) (at : ℕ) (bytes : List ℕ) (r : Answer) (f : PartsSoFar text names0 names p R)
+    (d : R ≡ line at bytes ∷ R2) (m : PartMeets f.N at (words_say (words bytes)) names r names2) where
   abbrev said : Said
-  said = words_say (words (bytes_of text at e))
+  said = words_say (words bytes)
 
-  abbrev next : Next text at e
-  next = rest_next text at e (omega arith) d
-
-  step_checks : check_parts (length names0) [] (lines_of text) ≡ (check_part (length names) f.N at said then check_parts (length names0) (more_parts f.N said) next.others)
+  step_checks : check_parts (length names0) [] (lines_of text) ≡ (check_part (length names) f.N at said then check_parts (length names0) (more_parts f.N said) R2)
   unfolding check_parts
-  step_checks = f.checks ∙ ap (check_parts (length names0) f.N) next.first
-      ∙ ap (λ (n : ℕ). check_part n f.N at said then check_parts (length names0) (more_parts f.N said) next.others) (sym f.size)
+  step_checks = f.checks ∙ ap (check_parts (length names0) f.N) d
+      ∙ ap (λ (n : ℕ). check_part n f.N at said then check_parts (length names0) (more_parts f.N said) R2) (sym f.size)
 
-  step_parts : parts_of text ≡ parts_after (more_parts f.N said) next.others
+  step_parts : parts_of text ≡ parts_after (more_parts f.N said) R2
   unfolding parts_after
-  step_parts = f.parts ∙ ap (parts_after f.N) next.first
+  step_parts = f.parts ∙ ap (parts_after f.N) d
 
-  pub parts_stop : (n b : ℕ) → r ≡ Fault n b → check_parts (length names0) [] (lines_of text) ≡ refused n b
-  parts_stop n b g = step_checks ∙ then_stop _ _ n b (said_refused _ _ n b (ap step_says (sym g) ∙ m.answer))
+  pub parts_stop : (x : Refusal) → r ≡ Err x → check_parts (length names0) [] (lines_of text) ≡ refused (fault_no x.fault) x.place
+  parts_stop x g = step_checks ∙ then_stop _ _ _ _ (said_refused _ _ _ _ (ap says (sym g) ∙ m.answer))
 
-  pub parts_more : (q : ℕ) → r ≡ Count q → length names2 ≡ length names → PartsSoFar text names0 names2 q (e + 1)
+  pub parts_more : (q : ℕ) → r ≡ Ok q → length names2 ≡ length names → PartsSoFar text names0 names2 q R2
   parts_more q g k =
-      let told = said_count (check_part (length names) f.N at said) (length (more_parts f.N said)) q (ap step_says (sym g) ∙ m.answer) in
+      let told = said_count (check_part (length names) f.N at said) (length (more_parts f.N said)) q (ap says (sym g) ∙ m.answer) in
       let M = more_parts f.N said in
       let fits = with_room M names names2 (m.left told.0) k in
       record {
@@ -141,56 +131,60 @@ module _ (text names0 names names2 : List ℕ) (p at e : ℕ) (r : Step) (f : Pa
         size = k ∙ f.size;
         stands = m.left told.0 ∙ ap (with_names M) f.stands ∙ with_again f.N M names0 (more_length f.N said);
         named = more_named (length names) f.N at said told.0 f.named;
-        checks = step_checks ∙ then_go _ _ told.0 ∙ rest_same (check_parts (length names0) M) text at e (parts_idle (length names0) M) next;
-        parts = step_parts ∙ rest_same (parts_after M) text at e (after_idle M) next;
+        checks = step_checks ∙ then_go _ _ told.0;
+        parts = step_parts;
       }
 
 -- ---- the end
 
 module _ (text names0 names : List ℕ) where
-  pub parts_refused : (n b : ℕ) → check_parts (length names0) [] (lines_of text) ≡ refused n b → PartsMeet text names0 (Fault n b) names
+  pub parts_refused : (x : Refusal) → check_parts (length names0) [] (lines_of text) ≡ refused (fault_no x.fault) x.place → PartsMeet text names0 (Err x) names
   unfolding check_names
-  parts_refused n b e =
-      let v : check_names text (length names0) ≡ refused n b = then_stop _ _ n b e in
+  parts_refused x e =
+      let v : check_names text (length names0) ≡ refused (fault_no x.fault) x.place = then_stop _ _ _ _ e in
       record {
-        answer = sym (say_refused _ _ n b v);
-        left = λ g. accepted_not n b (sym v ∙ g);
-        named = λ g. accepted_not n b (sym v ∙ g);
+        answer = sym (say_refused _ _ _ _ v);
+        left = λ g. accepted_not _ _ (sym v ∙ g);
+        named = λ g. accepted_not _ _ (sym v ∙ g);
       }
 
-  module _ (p at : ℕ) (f : PartsSoFar text names0 names p at) (l : length text ≤ at) where
+  module _ (p : ℕ) (R : List Line) (f : PartsSoFar text names0 names p R) (l : R ≡ []) where
     end_checks : check_parts (length names0) [] (lines_of text) ≡ accepted
     unfolding check_parts
-    end_checks = f.checks ∙ ap (check_parts (length names0) f.N) (rest_end text at l) ∙ parts_idle (length names0) f.N at
+    end_checks = f.checks ∙ ap (check_parts (length names0) f.N) l
 
     end_parts : parts_of text ≡ f.N
     unfolding parts_after
-    end_parts = f.parts ∙ ap (parts_after f.N) (rest_end text at l) ∙ after_idle f.N at
+    end_parts = f.parts ∙ ap (parts_after f.N) l
 
     end_check : check_names text (length names0) ≡ unless (narrow_count p) 4 (length text)
     unfolding check_names
     end_check = then_go _ _ end_checks ∙ ap (λ (n : ℕ). unless (narrow_count n) 4 (length text)) (ap length end_parts ∙ f.count)
 
-    pub parts_empty : p ≡ 0 → PartsMeet text names0 (Fault 4 (length text)) names
-    unfolding narrow_count unless
-    parts_empty z =
-        let v : check_names text (length names0) ≡ refused 4 (length text) = end_check ∙ ap (λ (n : ℕ). unless (narrow_count n) 4 (length text)) z in
+    -- of no more than 64 parts the count is narrow unless it is 0
+    some_parts : narrow_count p ≡ not (eqb p 0)
+    unfolding narrow_count
+    some_parts = pick p (le-leb p 64 f.few)
+      where
+        pick : (n : ℕ) → leb n 64 ≡ true → leb 1 n && leb n 64 ≡ not (eqb n 0)
+        pick zero e = refl
+        pick (suc n) e = rw (e, le-leb 1 (suc n) (omega arith), ne_eqb (suc n) 0 (λ q. omega arith)) refl
+
+    pub parts_empty : (x : Refusal) → refused (fault_no x.fault) x.place ≡ unless (not (eqb p 0)) 4 (length text) → PartsMeet text names0 (Err x) names
+    parts_empty x e =
+        let v : check_names text (length names0) ≡ refused (fault_no x.fault) x.place = end_check
+        ∙ ap (λ (b : Bool). unless b 4 (length text)) some_parts ∙ sym e in
         record {
-          answer = sym (say_refused _ _ 4 (length text) v);
-          left = λ g. accepted_not 4 (length text) (sym v ∙ g);
-          named = λ g. accepted_not 4 (length text) (sym v ∙ g);
+          answer = sym (say_refused _ _ _ _ v);
+          left = λ g. accepted_not _ _ (sym v ∙ g);
+          named = λ g. accepted_not _ _ (sym v ∙ g);
         }
 
-    pub parts_fine : (p ≡ 0 → ⊥) → PartsMeet text names0 (Count p) names
-    unfolding narrow_count
-    parts_fine z =
-        let g : narrow_count p ≡ true = and_intro (leb 1 p) (leb p 64) (le-leb 1 p (positive p z)) (le-leb p 64 f.few) in
-        let v : check_names text (length names0) ≡ accepted = end_check ∙ last_go (narrow_count p) 4 (length text) g in
+    pub parts_fine : accepted ≡ unless (not (eqb p 0)) 4 (length text) → PartsMeet text names0 (Ok p) names
+    parts_fine e =
+        let v : check_names text (length names0) ≡ accepted = end_check ∙ ap (λ (b : Bool). unless b 4 (length text)) some_parts ∙ sym e in
         record {
           answer = ap counts (sym f.count ∙ ap length (sym end_parts)) ∙ sym (say_accepted _ _ v);
           left = λ h. f.stands ∙ ap (λ (M : List (List ℕ)). with_names M names0) (sym end_parts);
           named = λ h. ap (all is_name) end_parts ∙ f.named;
         }
-      where
-        positive : (n : ℕ) → (n ≡ 0 → ⊥) → 1 ≤ n
-        positive n y = omega arith

@@ -13,11 +13,13 @@ use Rattle.percolation.specs.Ranges.{narrow_count}
 use Rattle.link_order.specs.Order.{LinkLists}
 use Rattle.sheet.specs.Answers.{holds, faulty}
 use Rattle.words.specs.Lines.{lines_of}
-use Rattle.text.specs.declared.Step.{Step}
-use Rattle.text.specs.declared.Step.TheVariants.{Count, Fault}
-use Rattle.text.specs.declared.Text.TheVariants.{Fine, Faulty}
+use Rattle.std.specs.Prelude.{Ok, Err}
+use Rattle.answers.specs.Answers.{Answer, says}
+use Rattle.answers.specs.Faults.{number_of as fault_no}
+use Rattle.answers.specs.declared.Refusal.{Refusal}
+use Rattle.sheet.specs.declared.Counts.{Counts}
 use Rattle.text.specs.Reading.{check_text, check_links, check_parts, parts_of, links_after, text_links, text_say, TextMeets}
-use Rattle.text.specs.Model.{step_says, Held, check_names, PartsMeet, LinksMeet}
+use Rattle.text.specs.Model.{Held, check_names, PartsMeet, LinksMeet}
 use Rattle.text.proofs.Pass1.{with_held, with_room}
 
 then_turn : (u v w : Verdict) → (u then (v then w)) ≡ ((u then v) then w)
@@ -37,21 +39,25 @@ by_passes : (text : List ℕ) (n : ℕ) (t : LinkLists) → check_text text n t 
 unfolding check_text check_names
 by_passes text n t = then_turn (check_parts n [] (lines_of text)) _ _
 
-module _ (text names names2 : List ℕ) (s : Step) (parts : PartsMeet text names s names2) where
-  text_refused : (t t2 : LinkLists) (n a : ℕ) → check_text text (length names) t ≡ refused n a → TextMeets text names t (Faulty n a) names2 t2
-  text_refused t t2 n a e = record {
-    answer = say_fault _ text n a e;
-    names_left = λ g. accepted_not n a (sym e ∙ g);
-    links_left = λ g. accepted_not n a (sym e ∙ g);
+abbrev pub counts_of : ℕ → ℕ → Counts
+counts_of p m = record { parts = p; links = m }
+
+module _ (text names names2 : List ℕ) (s : Answer) (parts : PartsMeet text names s names2) where
+  text_refused : (t t2 : LinkLists) (x : Refusal) → check_text text (length names) t ≡ refused (fault_no x.fault) x.place
+      → TextMeets text names t (Err x) names2 t2
+  text_refused t t2 x e = record {
+    answer = say_fault _ text _ _ e;
+    names_left = λ g. accepted_not _ _ (sym e ∙ g);
+    links_left = λ g. accepted_not _ _ (sym e ∙ g);
   }
 
-  pub text_stop : (t t2 : LinkLists) (n a : ℕ) → s ≡ Fault n a → TextMeets text names t (Faulty n a) names2 t2
-  text_stop t t2 n a e =
-      text_refused t t2 n a (by_passes text (length names) t ∙ then_stop _ _ n a (said_refused _ _ n a (ap step_says (sym e) ∙ parts.answer)))
+  pub text_stop : (t t2 : LinkLists) (x : Refusal) → s ≡ Err x → TextMeets text names t (Err x) names2 t2
+  text_stop t t2 x e =
+      text_refused t t2 x (by_passes text (length names) t ∙ then_stop _ _ _ _ (said_refused _ _ _ _ (ap says (sym e) ∙ parts.answer)))
 
-  module _ (p : ℕ) (e : s ≡ Count p) where
+  module _ (p : ℕ) (e : s ≡ Ok p) where
     passed : (check_names text (length names) ≡ accepted) × (p ≡ length (parts_of text))
-    passed = said_count _ _ p (ap step_says (sym e) ∙ parts.answer)
+    passed = said_count _ _ p (ap says (sym e) ∙ parts.answer)
 
     -- the names stand where pass 2 looks for them
     pub text_held : Held (parts_of text) names2
@@ -67,17 +73,17 @@ module _ (text names names2 : List ℕ) (s : Step) (parts : PartsMeet text names
         let g = unless_passed (narrow_count (length (parts_of text))) 4 (length text) (then_right (check_parts (length names) [] (lines_of text)) _ passed.0) in
         (omega (arith, passed.1, r, k), omega (arith, passed.1, leb-true (length (parts_of text)) 64 (and_right (leb 1 (length (parts_of text))) _ g)))
 
-    module _ (t t2 : LinkLists) (u : Step) (links : LinksMeet text (parts_of text) t u t2) where
+    module _ (t t2 : LinkLists) (u : Answer) (links : LinksMeet text (parts_of text) t u t2) where
       by_links : check_text text (length names) t ≡ check_links t (parts_of text) [] (lines_of text)
       by_links = by_passes text (length names) t ∙ then_go _ _ passed.0
 
-      pub text_stop_2 : (n a : ℕ) → u ≡ Fault n a → TextMeets text names t (Faulty n a) names2 t2
-      text_stop_2 n a f = text_refused t t2 n a (by_links ∙ said_refused _ _ n a (ap step_says (sym f) ∙ links.answer))
+      pub text_stop_2 : (x : Refusal) → u ≡ Err x → TextMeets text names t (Err x) names2 t2
+      text_stop_2 x f = text_refused t t2 x (by_links ∙ said_refused _ _ _ _ (ap says (sym f) ∙ links.answer))
 
-      pub text_fine : (m : ℕ) → u ≡ Count m → TextMeets text names t (Fine p m) names2 t2
+      pub text_fine : (m : ℕ) → u ≡ Ok m → TextMeets text names t (Ok (counts_of p m)) names2 t2
       unfolding text_links
       text_fine m f =
-          let k = said_count (check_links t (parts_of text) [] (lines_of text)) (length (links_after (parts_of text) [] (lines_of text))) m (ap step_says (sym f) ∙ links.answer) in
+          let k = said_count (check_links t (parts_of text) [] (lines_of text)) (length (links_after (parts_of text) [] (lines_of text))) m (ap says (sym f) ∙ links.answer) in
           record {
             answer = ap₂ holds passed.1 k.1 ∙ say_fine _ text (by_links ∙ k.0);
             names_left = λ g. parts.left passed.0;

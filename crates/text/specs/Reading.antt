@@ -1,14 +1,14 @@
 -- What a text says: its parts, its links, and its faults in order. Assumes nothing.
-use Rattle.std.specs.Prelude.{◌≡◌, Bool, true, false, not, ◌&&◌, List, [], ◌∷◌, ◌++◌, ℕ, zero, suc, ◌+◌, ◌*◌, ◌-◌, min, max, eqb, leb, ltb, length, drop}
+use Rattle.std.specs.Prelude.{◌≡◌, Bool, true, false, not, ◌&&◌, List, [], ◌∷◌, ◌++◌, ℕ, zero, suc, ◌+◌, ◌*◌, ◌-◌, min, max, eqb, leb, ltb, length, drop, Result}
 use Rattle.answers.specs.Verdict.{Verdict, accepted, refused, ◌then◌, unless}
 use Rattle.sets.specs.Lists.{any, all, same}
 use Rattle.percolation.specs.Ranges.{in_range, narrow_count}
 use Rattle.percolation.specs.Links.{Link, link, linked}
 use Rattle.part_names.specs.Names.{visible}
 use Rattle.link_order.specs.Order.{LinkLists, has_room, with_links, sort_links}
-use Rattle.sheet.specs.Answers.{SheetSaid, holds, faulty}
-use Rattle.text.specs.declared.Text.{Text}
-use Rattle.text.specs.declared.Text.TheVariants.{Fine, Faulty}
+use Rattle.answers.specs.declared.Refusal.{Refusal}
+use Rattle.sheet.specs.declared.Counts.{Counts}
+use Rattle.sheet.specs.Answers.{SheetSaid, holds, faulty, sheet_says}
 use Rattle.words.specs.Lines.{Line, lines_of, line_says, Said, silent, part_said, link_said, neither}
 
 -- ---- parts
@@ -140,11 +140,6 @@ check_text text n t =
     then unless (narrow_count (length (parts_of text))) 4 (length text)
     then check_links t (parts_of text) [] (lines_of text)
 
--- the counts of the parts and links, or a fault
-abbrev pub text_says : Text → SheetSaid
-text_says (Fine p m) = holds p m
-text_says (Faulty n a) = faulty n a
-
 -- what is right to say where the verdict is v
 unfoldable pub text_say : Verdict → List ℕ → SheetSaid
 unfolding parts_of text_links
@@ -152,7 +147,7 @@ text_say accepted text = holds (length (parts_of text)) (length (text_links text
 text_say (refused n a) text = faulty n a
 
 -- what reading must do: r is its answer, names and t are lent, names2 and t2 are what it leaves; after a fault these are free
-pub record TextMeets (text names : List ℕ) (t : LinkLists) (r : Text) (names2 : List ℕ) (t2 : LinkLists) : Type 0 where
-  pub answer : text_says r ≡ text_say (check_text text (length names) t) text
+pub record TextMeets (text names : List ℕ) (t : LinkLists) (r : Result Counts Refusal) (names2 : List ℕ) (t2 : LinkLists) : Type 0 where
+  pub answer : sheet_says r ≡ text_say (check_text text (length names) t) text
   pub names_left : check_text text (length names) t ≡ accepted → names2 ≡ name_bytes (parts_of text) ++ drop (8 * length (parts_of text)) names
   pub links_left : check_text text (length names) t ≡ accepted → t2 ≡ with_links (sort_links (text_links text)) t

@@ -1,12 +1,12 @@
 #![tactic(auto)]
 
 // The tree program: reads a sheet from standard input, takes k 3, and writes the rows of its merge tree, or one refusal.
-use answers::Answer;
+use answers::{Fault, Refusal};
 use console::{STDIN, field, text};
-use sheet::Checked;
+use slots::Lent;
 
-fn refused(n: u8, place: usize) {
-    trial::refused(n, place);
+fn refused(r: Refusal) {
+    trial::refused(r);
     text(b"\n");
 }
 
@@ -22,26 +22,19 @@ fn row(x: &[u8], n: usize) {
 }
 
 fn rows(out: &[u8], lines: usize) {
-    let mut at = 0;
-    let mut i = 0;
-    while i < lines {
-        if out.len() - at < 26 {
-            return;
-        }
-        i += 1;
-        row(&out[at..], i);
-        at += 26;
+    for (line, n) in out.chunks_exact(26).take(lines).zip(1..) {
+        row(line, n);
     }
 }
 
 fn head(s: &[u8]) {
     match sheet::check(s) {
-        Checked::Fine(p, m) => {
-            field(b"parts ", p);
-            field(b" links ", m);
+        Ok(c) => {
+            field(b"parts ", c.parts);
+            field(b" links ", c.links);
             text(b"\n");
         }
-        Checked::Faulty(n, place) => refused(n, place),
+        Err(r) => refused(r),
     }
 }
 
@@ -51,23 +44,21 @@ fn show(s: &[u8]) {
     let mut entries = [0u32; 1024];
     let mut smallest = [0u64; 1024];
     let mut unions = [0u64; 1024];
+    let mut tables = Lent {
+        sets: &mut sets,
+        entries: &mut entries,
+        smallest: &mut smallest,
+        unions: &mut unions,
+    };
     let mut out = [0u8; 18200];
-    match merge_tree::lines(
-        s,
-        3,
-        &mut sets,
-        &mut entries,
-        &mut smallest,
-        &mut unions,
-        &mut out,
-    ) {
-        Answer::Count(n) => {
+    match merge_tree::lines(s, 3, &mut tables, &mut out) {
+        Ok(n) => {
             head(s);
             rows(&out, n);
             field(b"end ", n);
             text(b"\n");
         }
-        Answer::Refused(n, place) => refused(n, place),
+        Err(r) => refused(r),
     }
 }
 
@@ -75,7 +66,10 @@ fn main() {
     let mut input = [0u8; 65537];
     let n = io::read_full(STDIN, &mut input);
     if 65536 < n {
-        refused(3, 65536);
+        refused(Refusal {
+            fault: Fault::Length,
+            place: 65536,
+        });
         return;
     }
     show(&input[..n]);

@@ -1,17 +1,19 @@
 -- The steps at the end of a level, one slot at a time: classes counted, lines that start, and rows emptied. Assumes nothing.
-use mathlib.Core.Path.{◌≡◌, refl, sym, ap, ap₂, ◌∙◌}
+use mathlib.Core.Path.{◌≡◌, refl, sym, ap, ◌∙◌}
 use mathlib.Core.Logic.{◌⊎◌, inl, inr}
 use mathlib.Core.Bool.{Bool, true, false, cond, not, ◌&&◌, ◌||◌}
 use mathlib.Core.List.{List, [], ◌∷◌, ◌++◌, append-nil}
-use Prim.Native.Nat.{ℕ, suc, ◌+◌, ◌≤◌, ◌<◌}
+use Prim.Native.Nat.{ℕ, zero, suc, ◌+◌, ◌≤◌, ◌<◌}
+use native.Mathlib.Omega.{arith}
+use Rattle.std.specs.List.{filter, range_with_len}
 use native.Mathlib.Numerals.{add-one}
 use lib.Dec.{eqb, ltb}
 use lib.ListN.{length, length-append}
 use borrow.Author.Tests.{eq-eqb, ne_eqb, lt-ltb, le-ltb, le-leb, lt-leb}
-use Rattle.sets.specs.Lists.{keep}
+use Rattle.sets.specs.Lists.{keep, from, below}
 use Rattle.sets.specs.Value.{row, store, number_at}
 use Rattle.sets.proofs.Tests.{split, and_left, and_right}
-use Rattle.sets.proofs.ListLaws.{keep_yes, keep_no, keep_append}
+use Rattle.sets.proofs.ListLaws.{keep_yes, keep_no, keep_append, keep_both, keep_le, keep_all, below_length}
 use Rattle.slots.specs.Tables.{root_of}
 use Rattle.listings.specs.Model.{root_slots}
 use Rattle.listings.proofs.Listed.{roots_yes, roots_no}
@@ -98,6 +100,38 @@ module _ (es us : List ℕ) (n : ℕ) where
     pub tally_no : eqb (root_of es i) i && starts_at us n i ≡ false → length (start_slots es us n (i + 1)) ≡ length (start_slots es us n i)
     tally_no e = ap (λ (j : ℕ). length (start_slots es us n j)) (add-one i) ∙ ap length (slots_no e)
 
+-- ---- the slots that a test keeps, as std counts them
+
+filtered : (p : ℕ → Bool) (a n : ℕ) → filter p (range_with_len a n) ≡ keep p (from a n)
+unfolding keep from
+filtered p a zero = refl
+filtered p a (suc n) = rw (add-one a) (go (p a) (filtered p (suc a) n))
+  where
+    go : (b : Bool) → filter p (range_with_len (suc a) n) ≡ keep p (from (suc a) n)
+        → cond b (a ∷ filter p (range_with_len (suc a) n)) (filter p (range_with_len (suc a) n)) ≡ elim b [ true ↦ a ∷ keep p (from (suc a) n) | false ↦ keep p (from (suc a) n) ]
+    go true e = ap (λ (l : List ℕ). a ∷ l) e
+    go false e = e
+
+module _ (es us : List ℕ) (n m : ℕ) where
+  pub starts_kept : start_slots es us n m ≡ keep (λ i. eqb (root_of es i) i && starts_at us n i) (below m)
+  unfolding start_slots root_slots
+  starts_kept = keep_both (λ i. eqb (root_of es i) i) (starts_at us n) (below m)
+
+  pub starts_filtered : length (filter (λ i. eqb (root_of es i) i && starts_at us n i) (range_with_len 0 m)) ≡ length (start_slots es us n m)
+  unfolding below
+  starts_filtered = ap length (filtered (λ i. eqb (root_of es i) i && starts_at us n i) 0 m ∙ sym starts_kept)
+
+  pub starts_few : length (start_slots es us n m) ≤ m
+  starts_few =
+      let p : ℕ → Bool = λ i. eqb (root_of es i) i && starts_at us n i in
+      omega (
+        arith,
+        ap length starts_kept,
+        keep_le p (λ i. true) (below m) (λ x i e. refl),
+        ap length (keep_all (λ i. true) (below m) (λ x i. refl)),
+        below_length m,
+      )
+
 -- ---- slots in turn
 
 module _ (test : List ℕ → ℕ → Bool) (place new : ℕ → ℕ) (us : List ℕ) where
@@ -114,13 +148,3 @@ module _ (test : List ℕ → ℕ → Bool) (place new : ℕ → ℕ) (us : List
     pub swept_no : test (swept test place new us i) i ≡ false → swept test place new us (suc i) ≡ swept test place new us i
     unfolding swept
     swept_no e = rw (swept, e)
-
-    -- what the loops over slots keep, one slot more
-    module _ (t next : List ℕ) (e : t ≡ swept test place new us i) where
-      pub swept_kept : test t i ≡ false → next ≡ t → next ≡ swept test place new us (i + 1)
-      swept_kept f g = g ∙ e ∙ sym (ap (swept test place new us) (add-one i) ∙ swept_no (ap (λ (l : List ℕ). test l i) (sym e) ∙ f))
-
-      pub swept_more : test t i ≡ true → (q v : ℕ) → q ≡ place i → v ≡ new (number_at t q) → next ≡ store t q v → next ≡ swept test place new us (i + 1)
-      swept_more f q v a b g =
-          g ∙ ap (store t q) b ∙ ap₂ (λ (l : List ℕ) (j : ℕ). store l j (new (number_at l j))) e a
-          ∙ sym (ap (swept test place new us) (add-one i) ∙ swept_yes (ap (λ (l : List ℕ). test l i) (sym e) ∙ f))

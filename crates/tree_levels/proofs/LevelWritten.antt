@@ -5,6 +5,11 @@ use Prim.Native.Nat.{ℕ, ◌+◌, ◌-◌, ◌*◌, ◌≤◌}
 use native.Mathlib.Omega.{arith}
 use lib.ListN.{length, drop, length-append}
 use Rattle.percolation.specs.Tree.{Line, tree_bytes}
+use Rattle.slots.specs.declared.Lent.{Lent}
+use Rattle.slots.specs.Tables.{Tables}
+use Rattle.slots.specs.Lent.{tables_of}
+use Rattle.tree_levels.specs.declared.Level.{Level}
+use Rattle.tree_levels.specs.Kept.{KeepsSlots, with_unions}
 use Rattle.tree_lines.specs.LineModel.{line_length, lines_with, holding}
 use Rattle.tree_levels.specs.LevelModel.{join_counts, start_slots, wiped, Numbering, numbers_of, went_into, grew_to, WentTo, GrewTo, FilledTo, NumbersTo}
 use Rattle.tree_levels.specs.LevelModel.{WritesLevel}
@@ -57,3 +62,22 @@ module _ (b used w n : ℕ) (es ms us old cs out1 ms2 us2 out2 out3 out4 us3 : L
 
   pub level_written : WritesLevel b used w n es ms (join_counts es us b) old ms2 us3 out4
   level_written = subst (λ (x : List ℕ). WritesLevel b used w n es ms x old ms2 us3 out4) counted written
+
+-- with the tables as the code has them: counted in C, numbered in N, wiped in W
+pub level_wrote : (v : Level) (n m : ℕ) (T C N W : Lent) (old out1 out2 out3 out4 : List ℕ)
+    → tables_of C 0 ≡ with_unions (tables_of T 0) (join_counts T.entries.now T.unions.now v.before)
+    → m ≡ n + length (start_slots C.entries.now C.unions.now v.before v.used)
+    → FilledTo v.weight C.entries.now C.smallest.now C.unions.now v.before v.used old n v.used out1 → KeepsSlots C N
+    → NumbersTo v.before n (m - n) C.smallest.now C.unions.now out1 m N.smallest.now N.unions.now out2
+    → WentTo N.entries.now N.smallest.now N.unions.now out2 m v.before out3 → GrewTo N.entries.now N.smallest.now N.unions.now out3 m v.used out4
+    → tables_of W 0 ≡ with_unions (tables_of N 0) (wiped N.entries.now N.unions.now v.used)
+    → WritesLevel v.before v.used v.weight n T.entries.now T.smallest.now (join_counts T.entries.now T.unions.now v.before) old W.smallest.now W.unions.now out4
+level_wrote v n m T C N W old out1 out2 out3 out4 counted total put kept numbers went grew wipes =
+    let ce : C.entries.now ≡ T.entries.now = ap (λ (x : Tables). x.entries) counted in
+    let cs : C.smallest.now ≡ T.smallest.now = ap (λ (x : Tables). x.smallest) counted in
+    let ne : N.entries.now ≡ T.entries.now = kept.entries ∙ ce in
+    let ws : W.smallest.now ≡ N.smallest.now = ap (λ (x : Tables). x.smallest) wipes in
+    rw ws
+    (level_written v.before v.used v.weight n T.entries.now T.smallest.now T.unions.now old C.unions.now out1 N.smallest.now N.unions.now out2 out3 out4
+    W.unions.now m (ap (λ (x : Tables). x.unions) counted) (rw ce at total) (rw (ce, cs) at put) (rw cs at numbers) (rw ne at went) (rw ne at grew)
+    (rw ne at (ap (λ (x : Tables). x.unions) wipes)))

@@ -1,19 +1,18 @@
 -- The classes show their unions in their lines, one end at a time: what a line shows then. Assumes nothing.
-use mathlib.Core.Path.{◌≡◌, refl, sym, ap, ap₂, ◌∙◌}
+use mathlib.Core.Path.{◌≡◌, refl, sym, ap, ◌∙◌}
 use mathlib.Core.Logic.{◌⊎◌, inl, inr}
 use mathlib.Core.Bool.{true, false}
 use mathlib.Core.List.{List}
-use Prim.Native.Nat.{ℕ, zero, suc, ◌+◌, ◌<◌}
-use native.Mathlib.Numerals.{add-one}
+use Prim.Native.Nat.{ℕ, zero, suc, ◌<◌}
 use native.Mathlib.Omega.{arith}
 use lib.Dec.{eqb}
 use borrow.Author.Tests.{eq-eqb, eqb-true}
 use Rattle.sets.specs.Value.{row, number_at}
 use Rattle.sets.proofs.Tests.{split, never, same_or_not}
 use Rattle.slots.specs.Tables.{root_of}
-use Rattle.tree_lines.specs.LineModel.{changed, holding, Regrows}
+use Rattle.tree_lines.specs.LineModel.{changed}
 use Rattle.tree_lines.proofs.LineFields.{changed_at, changed_other}
-use Rattle.tree_levels.specs.LevelModel.{grew_to, GrewTo}
+use Rattle.tree_levels.specs.LevelModel.{grew_to}
 
 module _ (es ms us : List ℕ) where
   module _ (u : ℕ → ℕ) (i : ℕ) where
@@ -24,24 +23,6 @@ module _ (es ms us : List ℕ) where
     grew_no : eqb (root_of es i) i ≡ false → grew_to es ms us u (suc i) ≡ grew_to es ms us u i
     unfolding grew_to
     grew_no e = rw (grew_to, e)
-
-  -- ---- the loop
-
-  pub growth_none : (old : List ℕ) (n : ℕ) → GrewTo es ms us old n 0 old
-  unfolding grew_to
-  growth_none old n f u X rest e l = e
-
-  module _ (old out : List ℕ) (n i : ℕ) (t : GrewTo es ms us old n i out) where
-    pub growth_no : (next : List ℕ) → eqb (root_of es i) i ≡ false → next ≡ out → GrewTo es ms us old n (i + 1) next
-    growth_no next e g f u X rest p l =
-        g ∙ t f u X rest p l ∙ ap (λ (h : ℕ → ℕ). holding f h X rest) (sym (ap (grew_to es ms us u) (add-one i) ∙ grew_no u i e))
-
-    pub growth_yes : (next : List ℕ) (x v : ℕ) → eqb (root_of es i) i ≡ true → x ≡ number_at ms (suc i) → v ≡ row us i
-        → Regrows (λ u. changed u x v) out n next → GrewTo es ms us old n (i + 1) next
-    growth_yes next x v e p q put f u X rest h l =
-        put f (grew_to es ms us u i) X rest (t f u X rest h l) l
-        ∙ ap₂ (λ (y z : ℕ). holding f (changed (grew_to es ms us u i) y z) X rest) p q
-        ∙ ap (λ (g : ℕ → ℕ). holding f g X rest) (sym (ap (grew_to es ms us u) (add-one i) ∙ grew_yes u i e))
 
   -- ---- what line m shows then
 

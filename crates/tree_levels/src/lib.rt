@@ -5,7 +5,9 @@
 ghost use Rattle.std.specs.Prelude.{◌≡◌, cond, ◌&&◌, suc, ◌+◌, ◌-◌, ◌^◌, ◌<◌, ◌≤◌, eqb, ltb, length};
 ghost use Rattle.sets.specs.Value.{store, number_at};
 ghost use Rattle.slots.specs.Tables.{root_of};
+ghost use Rattle.slots.specs.Lent.{tables_of};
 ghost use Rattle.tree_lines.specs.LineModel.{changed, Redirects};
+ghost use Rattle.tree_levels.specs.Kept.{KeepsSlots, with_unions};
 ghost use Rattle.tree_levels.specs.LevelModel.{
   absorbed,
   more_joins,
@@ -22,27 +24,51 @@ ghost use Rattle.tree_levels.specs.LevelModel.{
   WritesLevel,
 };
 
-// Whether slot i ended a class at the end of the level before and ends none now.
-fn absorbed(entries: &[u32], unions: &[u64], i: usize) -> bool
-    ensures { result ≡ absorbed entries.now unions.now i }
+use slots::Lent;
+use tree_lines::Line;
+
+// A level: the weight of its links, and how many slots were used before them and are now.
+#[derive(Clone, Copy, Debug, PartialEq, Eq)]
+pub struct Level {
+    pub weight: usize,
+    pub before: usize,
+    pub used: usize,
+}
+
+// The slot where the class of slot i ends.
+fn end(tables: &Lent, i: usize) -> usize
+    ensures { (result ≡ root_of tables.now.entries.now i) × (result ≤ i) }
 {
-    if joining::is_root(entries, i) {
-        return false;
-    }
-    !sets::is_empty(sets::at(unions, i))
+    joining::root(tables.entries, i)
+}
+
+// Whether a class ends at slot i.
+fn is_end(tables: &Lent, i: usize) -> bool
+    ensures { result ≡ eqb (root_of tables.now.entries.now i) i }
+{
+    joining::is_root(tables.entries, i)
+}
+
+// Whether slot i ended a class at the end of the level before and ends none now.
+#[tactic(auto, unfolding(crate::specs::LevelModel::absorbed))]
+fn absorbed(tables: &Lent, i: usize) -> bool
+    ensures { result ≡ absorbed tables.now.entries.now tables.now.unions.now i }
+{
+    !is_end(tables, i) && !sets::is_empty(sets::at(tables.unions, i))
 }
 
 // How many lines a class joins with one more class, where it joined n; 0 stands for its own line alone.
+#[tactic(auto, unfolding(crate::specs::LevelModel::more_joins))]
 fn more_joins(n: u64) -> u64
     ensures { result ≡ more_joins n }
 {
     if n == 0 {
-        return 2;
+        2
+    } else if n < u64::from(u32::MAX) {
+        n + 1
+    } else {
+        n
     }
-    if n < 4294967295 {
-        return n + 1;
-    }
-    n
 }
 
 // Counts one more class into the class that ends at r.
@@ -55,237 +81,184 @@ fn count_join(unions: &mut [u64], r: usize)
 }
 
 // For each class that two or more of the level before went into, at the slot after its end: how many lines it joins. `used` slots were used before.
-fn count_joins(entries: &[u32], unions: &mut [u64], used: usize)
-    ensures { unions.new ≡ join_counts entries.now unions.old used }
+#[tactic(auto, unfolding(crate::specs::LevelModel::swept))]
+fn count_joins(tables: &mut Lent, used: usize)
+    ensures kept { KeepsSlots tables.old tables.new }
+    ensures tables_after { tables_of tables.new 0
+        ≡ with_unions (tables_of tables.old 0) (join_counts tables.old.entries.now tables.old.unions.now used) }
 {
-    let mut i = 0;
-    while i < used {
-        if absorbed(entries, unions, i) {
-            count_join(unions, joining::root(entries, i));
+    for i in 0..used {
+        if absorbed(tables, i) {
+            let r = end(tables, i);
+            count_join(tables.unions, r);
         }
-        i += 1;
     }
 }
 
 // How many lines the class that ends at r joins.
+#[tactic(auto, unfolding(crate::specs::LevelModel::joins_at))]
 fn joins_at(unions: &[u64], before: usize, r: usize) -> usize
-    requires { r < 2 ^ 64 - 1 }
     ensures { result ≡ joins_at unions.now before r }
 {
     if before <= r {
-        return 0;
+        0
+    } else {
+        slots::note_at(unions, r + 1) as usize
     }
-    slots::note_at(unions, r + 1) as usize
 }
 
 // Whether a class ends at r and starts a line: it holds no class of the level before, or two or more.
-fn starts(entries: &[u32], unions: &[u64], before: usize, r: usize) -> bool
-    requires { r < 2 ^ 64 - 1 }
-    ensures { result ≡ eqb (root_of entries.now r) r && starts_at unions.now before r }
+#[tactic(auto, unfolding(crate::specs::LevelModel::starts_at))]
+fn starts(tables: &Lent, before: usize, r: usize) -> bool
+    ensures { result ≡ eqb (root_of tables.now.entries.now r) r && starts_at tables.now.unions.now before r }
 {
-    if !joining::is_root(entries, r) {
-        return false;
-    }
-    if before <= r {
-        return true;
-    }
-    slots::note_at(unions, r + 1) != 0
+    is_end(tables, r) && (before <= r || slots::note_at(tables.unions, r + 1) != 0)
 }
 
 // How many lines start.
-fn count_lines(entries: &[u32], unions: &[u64], before: usize, used: usize) -> usize
-    ensures { (result ≡ length (start_slots entries.now unions.now before used)) × (result ≤ used) }
+fn count_lines(tables: &Lent, level: Level) -> usize
+    ensures { (result ≡ length (start_slots tables.now.entries.now tables.now.unions.now level.before level.used)) × (result ≤ level.used) }
 {
-    let mut n = 0;
-    let mut i = 0;
-    while i < used {
-        if starts(entries, unions, before, i) {
-            n += 1;
-        }
-        i += 1;
-    }
-    n
+    (0..level.used)
+        .filter(|i| starts(tables, level.before, *i))
+        .count()
 }
 
 // Empties the row of each used slot that is no end.
-fn wipe(entries: &[u32], unions: &mut [u64], used: usize)
-    ensures { unions.new ≡ wiped entries.now unions.old used }
+#[tactic(auto, unfolding(crate::specs::LevelModel::swept))]
+fn wipe(tables: &mut Lent, used: usize)
+    ensures kept { KeepsSlots tables.old tables.new }
+    ensures tables_after { tables_of tables.new 0
+        ≡ with_unions (tables_of tables.old 0) (wiped tables.old.entries.now tables.old.unions.now used) }
 {
-    let mut i = 0;
-    while i < used {
-        if !joining::is_root(entries, i) {
-            sets::put(unions, i, sets::empty());
+    for i in 0..used {
+        if !is_end(tables, i) {
+            sets::put(tables.unions, i, sets::empty());
         }
-        i += 1;
     }
 }
 
 // Puts the lines that start behind the first n, by smallest clique, each with the slot where its class ends in place of the line that it goes into. Gives
 // how many there are then.
-fn put_lines(
-    entries: &[u32],
-    smallest: &[u64],
-    unions: &[u64],
-    before: usize,
-    used: usize,
-    weight: usize,
-    out: &mut [u8],
-    n: usize,
-) -> usize
-    requires { n + used < 2 ^ 64 }
-    ensures value { result ≡ n + length (start_slots entries.now unions.now before used) }
-    ensures filled_to { FilledTo weight entries.now smallest.now unions.now before used out.old n used out.new }
+fn put_lines(tables: &Lent, level: Level, out: &mut [u8], n: usize) -> usize
+    requires { n + level.used < 2 ^ 64 }
+    ensures value { result ≡ n + length (start_slots tables.now.entries.now tables.now.unions.now level.before level.used) }
+    ensures filled_to { FilledTo level.weight tables.now.entries.now tables.now.smallest.now tables.now.unions.now level.before level.used
+        out.old n level.used out.new }
 {
     let mut m = n;
-    let mut i = 0;
-    while i < used {
-        if starts(entries, unions, before, i) {
-            let joins = joins_at(unions, before, i);
-            tree_lines::put_line(
-                out,
-                n,
-                m,
-                weight,
-                joins,
-                i,
-                sets::at(smallest, i),
-                sets::at(unions, i),
-            );
+    for i in 0..level.used {
+        if starts(tables, level.before, i) {
+            let line = Line {
+                weight: level.weight,
+                joins: joins_at(tables.unions, level.before, i),
+                into: i,
+                small: sets::at(tables.smallest, i),
+                whole: sets::at(tables.unions, i),
+            };
+            tree_lines::put_line(out, n, m, line);
             m += 1;
         }
-        i += 1;
     }
     m
 }
 
 // The line that the class of slot r had goes into line m of n, where r was used before.
-fn end_line(smallest: &[u64], before: usize, out: &mut [u8], n: usize, r: usize, m: usize)
-    requires { r < 2 ^ 64 - 1 }
-    ensures { Redirects (λ f. cond (ltb r before) (changed f (number_at smallest.now (suc r)) m) f) out.old n out.new }
+fn end_line(tables: &Lent, before: usize, out: &mut [u8], n: usize, r: usize, m: usize)
+    ensures { Redirects (λ f. cond (ltb r before) (changed f (number_at tables.now.smallest.now (suc r)) m) f) out.old n out.new }
 {
-    if before <= r {
-        return;
+    if r < before {
+        let old = slots::note_at(tables.smallest, r + 1) as usize;
+        tree_lines::put_into(out, n, old, m);
     }
-    let old = slots::note_at(smallest, r + 1) as usize;
-    tree_lines::put_into(out, n, old, m);
 }
 
 // Line m of n starts at the slot that stands in place of the line that it goes into: its number goes to the slot after that.
-fn number_line(
-    smallest: &mut [u64],
-    unions: &mut [u64],
-    before: usize,
-    out: &mut [u8],
-    n: usize,
-    m: usize,
-)
+fn number_line(tables: &mut Lent, before: usize, out: &mut [u8], n: usize, m: usize)
     requires { (1 ≤ m) × (m ≤ n) }
-    ensures { NumbersOne before m smallest.old unions.old out.old n smallest.new unions.new out.new }
+    ensures kept { KeepsSlots tables.old tables.new }
+    ensures numbers { NumbersOne before m tables.old.smallest.now tables.old.unions.now out.old n
+        tables.new.smallest.now tables.new.unions.now out.new }
 {
     let r = tree_lines::into_at(out, n, m);
-    end_line(smallest, before, out, n, r, m);
+    end_line(tables, before, out, n, r, m);
     tree_lines::put_into(out, n, m, 0);
-    slots::put_note(smallest, r + 1, m as u64);
-    slots::put_note(unions, r + 1, 0);
+    slots::put_note(tables.smallest, r + 1, m as u64);
+    slots::put_note(tables.unions, r + 1, 0);
 }
 
 // The lines behind the first `from` get their numbers, up to n.
-fn number_lines(
-    smallest: &mut [u64],
-    unions: &mut [u64],
-    before: usize,
-    out: &mut [u8],
-    from: usize,
-    n: usize,
-)
+#[tactic(auto, unfolding(crate::specs::LevelModel::numbered))]
+fn number_lines(tables: &mut Lent, before: usize, out: &mut [u8], from: usize, n: usize)
     requires { from ≤ n }
-    ensures { NumbersTo before from (n - from) smallest.old unions.old out.old n smallest.new unions.new out.new }
+    ensures kept { KeepsSlots tables.old tables.new }
+    ensures numbers { NumbersTo before from (n - from) tables.old.smallest.now tables.old.unions.now out.old n
+        tables.new.smallest.now tables.new.unions.now out.new }
 {
-    let mut m = from;
-    while m < n {
-        m += 1;
-        number_line(smallest, unions, before, out, n, m);
+    for m in from..n {
+        number_line(tables, before, out, n, m + 1);
     }
 }
 
 // The line of each absorbed class, of `used` slots, goes into the line of the class where it ends now.
-fn join_lines(
-    entries: &[u32],
-    smallest: &[u64],
-    unions: &[u64],
-    used: usize,
-    out: &mut [u8],
-    n: usize,
-)
-    ensures { WentTo entries.now smallest.now unions.now out.old n used out.new }
+#[tactic(auto, unfolding(crate::specs::LevelModel::went_into))]
+fn join_lines(tables: &Lent, used: usize, out: &mut [u8], n: usize)
+    ensures { WentTo tables.now.entries.now tables.now.smallest.now tables.now.unions.now out.old n used out.new }
 {
-    let mut i = 0;
-    while i < used {
-        if absorbed(entries, unions, i) {
-            let r = joining::root(entries, i);
-            let old = slots::note_at(smallest, i + 1) as usize;
-            let line = slots::note_at(smallest, r + 1) as usize;
+    for i in 0..used {
+        if absorbed(tables, i) {
+            let r = end(tables, i);
+            let old = slots::note_at(tables.smallest, i + 1) as usize;
+            let line = slots::note_at(tables.smallest, r + 1) as usize;
             tree_lines::put_into(out, n, old, line);
         }
-        i += 1;
     }
 }
 
 // Each class that ends below `used` shows its union in its line, one of n. The line of a class that was absorbed keeps what the level before showed.
-fn show_growth(
-    entries: &[u32],
-    smallest: &[u64],
-    unions: &[u64],
-    used: usize,
-    out: &mut [u8],
-    n: usize,
-)
-    ensures { GrewTo entries.now smallest.now unions.now out.old n used out.new }
+#[tactic(auto, unfolding(crate::specs::LevelModel::grew_to))]
+fn show_growth(tables: &Lent, used: usize, out: &mut [u8], n: usize)
+    ensures { GrewTo tables.now.entries.now tables.now.smallest.now tables.now.unions.now out.old n used out.new }
 {
-    let mut r = 0;
-    while r < used {
+    for r in 0..used {
         let after = r + 1;
-        if joining::is_root(entries, r) {
-            let line = slots::note_at(smallest, after) as usize;
-            tree_lines::put_whole(out, n, line, sets::at(unions, r));
+        if is_end(tables, r) {
+            let line = slots::note_at(tables.smallest, after) as usize;
+            tree_lines::put_whole(out, n, line, sets::at(tables.unions, r));
         }
-        r = after;
     }
 }
 
-// A level of the first pass, after its links: how many lines start, where `before` slots were used before it and `used` are now.
-pub fn count_level(entries: &[u32], unions: &mut [u64], before: usize, used: usize) -> usize
-    ensures value { (result ≡ length (start_slots entries.now (join_counts entries.now unions.old before) before used)) × (result ≤ used) }
-    ensures unions_after { unions.new ≡ wiped entries.now (join_counts entries.now unions.old before) used }
+// A level of the first pass, after its links: how many lines start.
+pub fn count_level(tables: &mut Lent, level: Level) -> usize
+    ensures kept { KeepsSlots tables.old tables.new }
+    ensures value { (result ≡ length (start_slots tables.old.entries.now
+        (join_counts tables.old.entries.now tables.old.unions.now level.before) level.before level.used)) × (result ≤ level.used) }
+    ensures tables_after { tables_of tables.new 0 ≡ with_unions (tables_of tables.old 0)
+        (wiped tables.old.entries.now (join_counts tables.old.entries.now tables.old.unions.now level.before) level.used) }
 {
-    count_joins(entries, unions, before);
-    let n = count_lines(entries, unions, before, used);
-    wipe(entries, unions, used);
+    count_joins(tables, level.before);
+    let n = count_lines(tables, level);
+    wipe(tables, level.used);
     n
 }
 
 // A level of the second pass, after its links: its lines behind the first n, with their numbers, the lines that they join go into them, and each line
 // that goes on shows its union. Gives how many lines there are then. For sister crates: the slots of a table are few.
-pub fn write_level(
-    entries: &[u32],
-    smallest: &mut [u64],
-    unions: &mut [u64],
-    before: usize,
-    used: usize,
-    weight: usize,
-    out: &mut [u8],
-    n: usize,
-) -> usize
-    requires { n + used < 2 ^ 64 }
-    ensures value { result ≡ n + length (start_slots entries.now (join_counts entries.now unions.old before) before used) }
-    ensures writes_level { WritesLevel before used weight n entries.now smallest.old (join_counts entries.now unions.old before)
-        out.old smallest.new unions.new out.new }
+pub fn write_level(tables: &mut Lent, level: Level, out: &mut [u8], n: usize) -> usize
+    requires { n + level.used < 2 ^ 64 }
+    ensures kept { KeepsSlots tables.old tables.new }
+    ensures value { result ≡ n + length (start_slots tables.old.entries.now
+        (join_counts tables.old.entries.now tables.old.unions.now level.before) level.before level.used) }
+    ensures writes_level { WritesLevel level.before level.used level.weight n tables.old.entries.now tables.old.smallest.now
+        (join_counts tables.old.entries.now tables.old.unions.now level.before) out.old
+        tables.new.smallest.now tables.new.unions.now out.new }
 {
-    count_joins(entries, unions, before);
-    let m = put_lines(entries, smallest, unions, before, used, weight, out, n);
-    number_lines(smallest, unions, before, out, n, m);
-    join_lines(entries, smallest, unions, before, out, m);
-    show_growth(entries, smallest, unions, used, out, m);
-    wipe(entries, unions, used);
+    count_joins(tables, level.before);
+    let m = put_lines(tables, level, out, n);
+    number_lines(tables, level.before, out, n, m);
+    join_lines(tables, level.before, out, m);
+    show_growth(tables, level.used, out, m);
+    wipe(tables, level.used);
     m
 }

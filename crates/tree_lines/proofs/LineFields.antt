@@ -1,7 +1,7 @@
 -- The two fields that are written into a line by its number, for the line that it goes into and for its union: read, and written. Assumes nothing.
 use mathlib.Core.Path.{◌≡◌, refl, sym, ap, ap₂, ◌∙◌}
 use mathlib.Core.Logic.{◌⊎◌, inl, inr}
-use mathlib.Core.Bool.{Bool, true, false, cond}
+use mathlib.Core.Bool.{Bool, false, cond}
 use mathlib.Core.List.{List, [], ◌∷◌, ◌++◌, append_assoc}
 use Prim.Native.Nat.{ℕ, zero, suc, ◌+◌, ◌-◌, ◌*◌, ◌/◌, ◌%◌, ◌^◌, ◌≤◌, ◌<◌}
 use native.Mathlib.Omega.{arith}
@@ -16,7 +16,7 @@ use Rattle.tree_lines.specs.LineModel.{line_length, line_bytes, lines_with, chan
 use Rattle.records.specs.Numbers.{four_at}
 use Rattle.records.proofs.Numbers.{Field, Writes, writes_sets, writes_set, field_four}
 use Rattle.records.proofs.InBytes.{record_field, record_written}
-use Rattle.tree_lines.proofs.LinePlaces.{head_of, tree_length, line_bytes_lem, whole_at, has_line_lem, no_line}
+use Rattle.tree_lines.proofs.LinePlaces.{head_of, tree_length, line_bytes_lem, whole_at, no_line}
 
 -- ---- lines by what they go into and by their unions
 
@@ -182,9 +182,3 @@ module _ (f u : ℕ → ℕ) (X : List Start) (rest old : List ℕ) (n m : ℕ) 
         (set_length_lem (u m) ∙ sym (set_length_lem v))
         (ap (λ (w : ℕ). line_bytes (line_as (start_of X m) (f m) w)) (changed_at u m v) ∙ (whole_at (line_as (start_of X m) (f m) v)).parts)
         (writes_set old new k k v refl h)
-
--- the first o bytes of line m lie within an output that has it
-pub field_room : (len n m size o : ℕ) → size ≡ line_length → o ≤ line_length → has_line len n m ≡ true → (1 ≤ m) × (m ≤ n) × ((m - 1) * size + o ≤ len)
-field_room len n m size o e b t =
-    let h = has_line_lem len n m t in
-    (h.0, h.1, omega (arith, h.0, h.2, ap (λ (k : ℕ). (m - 1) * k) e))

@@ -3,14 +3,14 @@ use mathlib.Core.Path.{◌≡◌, refl, sym, ap, ◌∙◌}
 use mathlib.Core.Logic.{◌⊎◌, inl, inr}
 use mathlib.Core.Bool.{true, false, ◌&&◌}
 use mathlib.Core.List.{List, [], ◌++◌, append-nil}
-use Prim.Native.Nat.{ℕ, ◌+◌, ◌*◌, ◌/◌, ◌≤◌, ◌<◌}
+use Prim.Native.Nat.{ℕ, ◌+◌, ◌-◌, ◌*◌, ◌/◌, ◌≤◌, ◌<◌}
 use native.Mathlib.Omega.{arith}
 use lib.Dec.{leb}
 use lib.ListN.{length, length-append}
 use lib.Seq.{sets}
 use borrow.Author.Tests.{leb-true, le-leb, lt-leb}
 use Rattle.sets.specs.Value.{bytes, set_bytes, set_length, with_set}
-use Rattle.sets.proofs.Tests.{never, and_intro, and_left, and_right, and_stop, and_go, lt_or_le}
+use Rattle.sets.proofs.Tests.{never, and_intro, and_left, and_right, and_stop, not_so, lt_or_le}
 use Rattle.sets.proofs.SetBytes.{bytes_length, set_length_lem}
 use Rattle.percolation.specs.Tree.{Line, line, whole_place, tree_bytes}
 use Rattle.records.specs.Model.{Opened}
@@ -135,15 +135,27 @@ no_line len n m t = go (lt_or_le m 1) (lt_or_le n m) (lt_or_le (len / line_lengt
         never (leb 1 m && (leb m n && leb m (len / line_length)))
         (and_intro (leb 1 m) _ (le-leb 1 m a) (and_intro (leb m n) (leb m (len / line_length)) (le-leb m n b) (le-leb m (len / line_length) c))) t
 
--- as the code tests it
-pub line_tested : (len n m size : ℕ) → size ≡ line_length → 1 ≤ m → m ≤ n → leb m (len / size) ≡ has_line len n m
-unfolding has_line
-line_tested len n m size e a b = and_go (leb 1 m) _ (le-leb 1 m a) (and_go (leb m n) _ (le-leb m n b) (ap (λ (k : ℕ). leb m (len / k)) e))
+-- as the code tests it: it is not there
 
-pub line_below : (len n m : ℕ) → m < 1 → false ≡ has_line len n m
+pub line_below : (len n m : ℕ) → m < 1 → has_line len n m ≡ false
 unfolding has_line
-line_below len n m a = and_stop (leb 1 m) _ (lt-leb 1 m a)
+line_below len n m a = sym (and_stop (leb 1 m) _ (lt-leb 1 m a))
 
-pub line_above : (len n m : ℕ) → 1 ≤ m → n < m → false ≡ has_line len n m
+pub line_above : (len n m : ℕ) → n < m → has_line len n m ≡ false
+line_above len n m b = not_so (has_line len n m) (λ t. absurd (omega (arith, has_line_lem len n m t)))
+
+pub line_behind : (len n m size : ℕ) → size ≡ line_length → len / size < m → has_line len n m ≡ false
+line_behind len n m size e b = not_so (has_line len n m) (λ t. absurd (omega (arith, has_line_lem len n m t, ap (λ (k : ℕ). len / k) e)))
+
+-- it is there, from k on
+pub line_there : (len n m size k : ℕ) → size ≡ line_length → k ≡ line_length → 1 ≤ m → m ≤ n → m ≤ len / size
+    → (has_line len n m ≡ true) × ((m - 1) * k ≡ (m - 1) * line_length) × ((m - 1) * k + line_length ≤ len)
 unfolding has_line
-line_above len n m a b = and_go (leb 1 m) _ (le-leb 1 m a) (and_stop (leb m n) _ (lt-leb m n b))
+line_there len n m size k e f a b d =
+    let q = ap (λ (i : ℕ). len / i) e in
+    let at = ap (λ (i : ℕ). (m - 1) * i) f in
+    let w : m ≤ len / line_length = omega arith in (
+      and_intro (leb 1 m) _ (le-leb 1 m a) (and_intro (leb m n) (leb m (len / line_length)) (le-leb m n b) (le-leb m (len / line_length) w)),
+      at,
+      omega arith,
+    )

@@ -3,9 +3,14 @@
 use Rattle.std.specs.Prelude.{◌≡◌, Bool, cond, ◌&&◌, List, [], ◌∷◌, ◌++◌, ℕ, suc, ◌/◌, ◌<◌, ◌^◌, eqb, leb, length}
 use Rattle.sets.specs.Lists.{◌∈◌, insert_by}
 use Rattle.sets.specs.Sets.{before}
-use Rattle.sets.specs.Value.{width, bytes, set_bytes}
+use Rattle.sets.specs.Value.{width, num, bytes, set_bytes}
+use Rattle.tree_lines.specs.declared.Line as declared
 use Rattle.percolation.specs.Tree.{Start, Line, line, tree_bytes}
 pub use Rattle.percolation.specs.Tree.{line_length}
+
+-- a line as the code holds it
+abbrev pub line_in : declared.Line → Line
+line_in l = line l.weight l.joins l.into (num l.small) (num l.whole)
 
 -- the bytes of a line
 abbrev pub line_bytes : Line → List ℕ

@@ -7,7 +7,5 @@ mod script;
 mod tables;
 
 pub use say::{listed, refused, untouched};
-pub use script::{
-    Row, call, has_bytes, label, line, most, next_row, numbers, part, small, spelled,
-};
+pub use script::{Lines, Row, call, label, numbers, part, rows, small, spelled};
 pub use tables::{copied, left, same, shown};

@@ -1,31 +1,20 @@
 // Answers and outputs in words.
 ghost use Rattle.trial.specs.Outputs.{Dots};
 
-use answers::Answer;
+use answers::{Answer, Refusal};
 use console::{field, text};
 
-pub fn refused(n: u8, place: usize) {
-    field(b"refused ", n as usize);
-    field(b" at ", place);
-}
-
-fn wide(b: u8) -> usize {
-    b as usize
+pub fn refused(r: Refusal) {
+    field(b"refused ", usize::from(u8::from(r.fault)));
+    field(b" at ", r.place);
 }
 
 // Each community of a listing as smallest/union.
 fn communities(out: &[u8]) {
-    let mut x = 0;
-    let mut i = 0;
-    while i < out.len() {
-        x = (x << 8) | wide(out[i]);
-        i += 1;
-        if i % 16 == 8 {
-            field(b" ", x);
-        }
-        if i % 16 == 0 {
-            field(b"/", x);
-        }
+    let (words, _) = out.as_chunks::<8>();
+    for (i, word) in words.iter().enumerate() {
+        let sign = if i % 2 == 0 { b" " } else { b"/" };
+        field(sign, u64::from_be_bytes(*word) as usize);
     }
 }
 
@@ -33,31 +22,24 @@ fn communities(out: &[u8]) {
 pub fn untouched(out: &[u8]) -> usize
     ensures { Dots out.now result }
 {
-    let mut i = 0;
-    while i < out.len() {
-        if out[i] != b'.' {
-            return i;
-        }
-        i += 1;
-    }
-    i
+    out.iter().position(|b| *b != b'.').unwrap_or(out.len())
 }
 
 // The count, the communities and what is left of the output behind them; of a refusal the whole output.
 pub fn listed(a: Answer, out: &[u8]) {
     match a {
-        Answer::Count(n) => {
+        Ok(n) => {
             field(b"count ", n);
             if out.len() / 16 < n {
                 text(b", more than the output holds");
                 return;
             }
-            let end = n * 16;
-            communities(&out[0..end]);
-            field(b", untouched ", untouched(&out[end..]));
+            let (listing, behind) = out.split_at(n * 16);
+            communities(listing);
+            field(b", untouched ", untouched(behind));
         }
-        Answer::Refused(n, place) => {
-            refused(n, place);
+        Err(r) => {
+            refused(r);
             field(b", untouched ", untouched(out));
         }
     }

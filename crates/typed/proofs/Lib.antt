@@ -1,4 +1,2 @@
-mod Moved
 mod Alone
 mod Asked
-pub mod Bounds

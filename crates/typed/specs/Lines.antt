@@ -1,19 +1,25 @@
--- Where lines stand in a buffer of input. Assumes nothing.
-use Rattle.std.specs.Prelude.{List, ◌≤◌, ℕ, length}
-use Rattle.typed.specs.declared.Kept.{Kept}
-use Rattle.typed.specs.declared.Next.{Next}
-use Rattle.typed.specs.declared.Next.TheVariants.{Line, Long, Nothing}
-use Rattle.typed.specs.declared.Taken.{Taken}
+-- What a buffer of input keeps, and where lines stand in it. Assumes nothing.
+use Rattle.std.specs.Prelude.{List, ◌≢◌, ◌<◌, ◌≤◌, ◌-◌, ℕ, slice_index, length, take, drop, Option, Result, IfSome, IfOk}
+use Rattle.std.specs.declared.ops.Range.{Range}
+use Rattle.typed.specs.declared.input.Lines.{Lines}
+use Rattle.typed.specs.declared.input.TooLong.{TooLong}
 
--- what is kept lies within the buffer
-abbrev pub KeptIn : Kept → List ℕ → Type 0
-KeptIn k buffer = (k.from ≤ k.to) × (k.to ≤ length buffer)
+-- the bytes that were read and not yet given
+abbrev pub kept : Lines → List ℕ
+kept l = take (l.to - l.from) (drop l.from l.buf.now)
 
--- and so does the next line
-abbrev pub NextIn : Next → List ℕ → Type 0
-NextIn (Line a e) buffer = (a ≤ e) × (e ≤ length buffer)
-NextIn Long buffer = Unit
-NextIn Nothing buffer = Unit
+-- no newline stands from place a to before place e
+abbrev pub NoNewline : List ℕ → ℕ → ℕ → Type 0
+NoNewline buffer a e = (k : ℕ) → a ≤ k → k < e → slice_index buffer k ≢ 10
 
-abbrev pub TakenIn : Taken → List ℕ → Type 0
-TakenIn t buffer = NextIn t.next buffer × KeptIn t.kept buffer
+-- the bytes of a line
+abbrev pub line_at : Range ℕ → List ℕ → List ℕ
+line_at r buffer = take (r.end - r.start) (drop r.start buffer)
+
+-- a line lies within the buffer, and has no newline
+abbrev pub LineIn : Range ℕ → List ℕ → Type 0
+LineIn r buffer = (r.start ≤ r.end) × (r.end ≤ length buffer) × NoNewline buffer r.start r.end
+
+-- and so does the next line, where there is one and it is not too long
+abbrev pub NextIn : Option (Result (Range ℕ) TooLong) → List ℕ → Type 0
+NextIn r buffer = IfSome r (λ next. IfOk next (λ line. LineIn line buffer))

@@ -1,12 +1,12 @@
 // What a typed line asks for.
-ghost use Rattle.std.specs.Prelude.{◌≡◌, true, [], ◌∷◌};
+ghost use Rattle.std.specs.Prelude.{◌≡◌, ◌↔◌, IsTrue, [], ◌∷◌};
 ghost use Rattle.words.specs.Lines.{words};
 ghost use Rattle.typed.specs.Commands.{word_asks, line_asks};
 
 use words::Form;
 
 // A blank line or a comment is silent, as it is for `pack`.
-#[derive(Clone, Copy)]
+#[derive(Clone, Copy, Debug, PartialEq, Eq)]
 pub enum Command {
     Silent,
     Part,
@@ -19,12 +19,9 @@ pub enum Command {
 
 // Whether this word is all that a line has.
 fn is_alone(line: &[u8], word: &[u8]) -> bool
-    ensures { (result ≡ true → words line.now ≡ word.now ∷ []) × (words line.now ≡ word.now ∷ [] → result ≡ true) }
+    ensures { IsTrue result ↔ (words line.now ≡ word.now ∷ []) }
 {
-    if words::count_words(line) != 1 {
-        return false;
-    }
-    check::same(words::word(line, 0), word)
+    words::count_words(line) == 1 && words::word(line, 0) == word
 }
 
 // What a line of neither form asks for.
@@ -32,15 +29,14 @@ fn one_word(line: &[u8]) -> Command
     ensures { result ≡ word_asks (words line.now) }
 {
     if is_alone(line, b"back") {
-        return Command::Back;
+        Command::Back
+    } else if is_alone(line, b"list") {
+        Command::List
+    } else if is_alone(line, b"quit") {
+        Command::Quit
+    } else {
+        Command::Unknown
     }
-    if is_alone(line, b"list") {
-        return Command::List;
-    }
-    if is_alone(line, b"quit") {
-        return Command::Quit;
-    }
-    Command::Unknown
 }
 
 pub fn command_of(line: &[u8]) -> Command

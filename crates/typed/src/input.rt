@@ -1,141 +1,164 @@
-// Standard input line by line. What was read and not yet taken stands in a lent buffer.
-ghost use Rattle.std.specs.Prelude.{◌≡◌, List, ◌++◌, ℕ, suc, ◌-◌, ◌<◌, ◌≤◌, length, take, drop};
-ghost use Rattle.typed.specs.Lines.{KeptIn, TakenIn};
+// Standard input line by line.
+ghost use Rattle.std.specs.Prelude.{◌≡◌, ◌≢◌, [], ◌∷◌, ◌++◌, ◌<◌, ◌≤◌, IfSome, IfOk, EachIndex, slice_index, length};
 
-use crate::{Kept, Next, READS, Taken};
-use console::{Loaded, find, read_on};
+use console::{find, read_on};
 use std::io::Read;
+use std::ops::Range;
 
-fn none(ended: bool) -> Kept
-    ensures { (result.from ≡ 0) × (result.to ≡ 0) }
-{
-    Kept {
-        from: 0,
-        to: 0,
-        ended,
-    }
+// Reads, to pass over a line that is too long.
+const READS: usize = 1000000;
+
+// A line for which the buffer had no room; it was passed over.
+#[derive(Clone, Copy, Debug, PartialEq, Eq)]
+pub struct TooLong;
+
+// The lines of an input, in a lent buffer: what was read and not yet given stands from `from` to before `to`; `ended` where none follows it.
+#[derive(Drop)]
+pub struct Lines<'a> {
+    buf: &'a mut [u8],
+    from: usize,
+    to: usize,
+    ended: bool,
+    ghost within: { (from ≤ to) × (to ≤ length buf.now) },
 }
 
-// Before the first line.
-pub fn first() -> Kept
-    ensures { (result.from ≡ 0) × (result.to ≡ 0) }
-{
-    none(false)
-}
+impl<'a> Lines<'a> {
+    ghost use Rattle.typed.specs.Lines.{kept, NoNewline, line_at, LineIn, NextIn};
 
-// What is kept behind a newline.
-fn behind(newline: usize, to: usize, ended: bool) -> Kept
-    requires { newline < to }
-    ensures { (result.from ≡ suc newline) × (result.to ≡ to) }
-{
-    Kept {
-        from: newline + 1,
-        to,
-        ended,
-    }
-}
-
-// A line that ends at a newline.
-fn line(from: usize, end: usize, to: usize, ended: bool) -> Taken
-    requires { (from ≤ end) × (end < to) }
-    ensures { (l : List ℕ) → to ≤ length l → TakenIn result l }
-{
-    Taken {
-        next: Next::Line(from, end),
-        kept: behind(end, to, ended),
-    }
-}
-
-// At the end of the input: what is left is a line.
-fn last(from: usize, to: usize) -> Taken
-    ensures { (l : List ℕ) → to ≤ length l → TakenIn result l }
-{
-    if from < to {
-        return Taken {
-            next: Next::Line(from, to),
-            kept: none(true),
-        };
-    }
-    Taken {
-        next: Next::Nothing,
-        kept: none(true),
-    }
-}
-
-// Moves the bytes from `from` to before `to` to the front. Gives how many they are.
-fn to_front(buf: &mut [u8], from: usize, to: usize) -> usize
-    requires { (from ≤ to) × (to ≤ length buf.old) }
-    ensures { (result ≡ to - from) × (buf.new ≡ take (to - from) (drop from buf.old) ++ drop (to - from) buf.old) }
-{
-    let count = to - from;
-    let mut i = 0;
-    while i < count {
-        buf[i] = buf[from + i];
-        i += 1;
-    }
-    count
-}
-
-// The rest of a line that is too long, read and forgotten. Where it takes too many reads the input counts as ended.
-fn pass_over(input: &mut impl Read, buf: &mut [u8]) -> Kept
-    ensures { KeptIn result buf.new }
-{
-    let mut i = 0;
-    while i < READS {
-        let Loaded::Bytes(n) = read_on(input, b"standard input", buf, 0) else {
-            return none(true);
-        };
-        if n == 0 {
-            return none(true);
-        }
-        let end = find(buf, 0, n, b'\n');
-        if end < n {
-            return behind(end, n, false);
-        }
-        i += 1;
-    }
-    none(true)
-}
-
-// Reads behind the first n bytes, which have no newline, until a line is whole.
-fn read_line(input: &mut impl Read, buf: &mut [u8], n: usize) -> Taken
-    requires { n ≤ length buf.old }
-    ensures { TakenIn result buf.new }
-{
-    let mut to = n;
-    while to < buf.len() {
-        let Loaded::Bytes(more) = read_on(input, b"standard input", buf, to) else {
-            return last(0, 0);
-        };
-        if more == 0 {
-            return last(0, to);
-        }
-        let end = find(buf, to, to + more, b'\n');
-        to += more;
-        if end < to {
-            return line(0, end, to, false);
+    // Before the first line nothing is kept.
+    pub fn new(buf: &'a mut [u8]) -> Lines<'a>
+        ensures { kept result ≡ [] }
+    {
+        Lines {
+            buf,
+            from: 0,
+            to: 0,
+            ended: false,
         }
     }
-    Taken {
-        next: Next::Long,
-        kept: pass_over(input, buf),
-    }
-}
 
-// The next line: of what is kept, or read. For sister crates.
-pub fn next_line(input: &mut impl Read, buf: &mut [u8], kept: Kept) -> Taken
-    requires { KeptIn kept buf.old }
-    ensures { TakenIn result buf.new }
-{
-    let from = kept.from;
-    let to = kept.to;
-    let end = find(buf, from, to, b'\n');
-    if end < to {
-        return line(from, end, to, kept.ended);
+    // The first newline from `at` on among what is kept; where there is none, what is kept ends.
+    fn newline(&self, at: usize) -> usize
+        requires { (self.now.from ≤ at) × (at ≤ self.now.to) }
+        ensures within { (at ≤ result) × (result ≤ self.now.to) }
+        ensures found { result < self.now.to → slice_index self.now.buf.now result ≡ 10 }
+        ensures before { NoNewline self.now.buf.now at result }
+    {
+        find(self.buf, at, self.to, b'\n')
     }
-    if kept.ended {
-        return last(from, to);
+
+    // Moves what is kept to the front of the buffer.
+    fn to_front(&mut self)
+        ensures same { kept self.new ≡ kept self.old }
+        ensures no_newline { NoNewline self.old.buf.now self.old.from self.old.to → NoNewline self.new.buf.now self.new.from self.new.to }
+    {
+        self.buf.copy_within(self.from..self.to, 0);
+        self.to -= self.from;
+        self.from = 0;
     }
-    let n = to_front(buf, from, to);
-    read_line(input, buf, n)
+
+    // Where the line stands that ends at the newline `end`: what is behind it stays.
+    fn up_to(&mut self, end: usize) -> Range<usize>
+        requires within { (self.old.from ≤ end) × (end < self.old.to) }
+        requires first { NoNewline self.old.buf.now self.old.from end }
+        requires newline { slice_index self.old.buf.now end ≡ 10 }
+        ensures within { LineIn result self.new.buf.now }
+        ensures parted { kept self.old ≡ line_at result self.new.buf.now ++ 10 ∷ kept self.new }
+    {
+        let from = self.from;
+        self.from = end + 1;
+        from..end
+    }
+
+    // At the end of the input: where the last line stands, if anything is kept.
+    fn last(&mut self) -> Option<Range<usize>>
+        requires { NoNewline self.old.buf.now self.old.from self.old.to }
+        ensures within { IfSome result (λ line. LineIn line self.new.buf.now) }
+        ensures all { IfSome result (λ line. line_at line self.new.buf.now ≡ kept self.old) }
+    {
+        let from = self.from;
+        self.from = self.to;
+        self.ended = true;
+        (from < self.to).then_some(from..self.to)
+    }
+
+    // The rest of a line that is too long, read and forgotten. Where it takes too many reads the input counts as ended.
+    fn pass_over(&mut self, rt: &impl Eprint, input: &mut impl Read) {
+        for _ in 0..READS {
+            self.from = 0;
+            self.to = read_on(rt, input, "standard input", self.buf, 0).unwrap_or(0);
+            if self.to == 0 {
+                break;
+            }
+            let end = self.newline(0);
+            if end < self.to {
+                let _ = self.up_to(end);
+                return;
+            }
+        }
+        self.from = self.to;
+        self.ended = true;
+    }
+
+    // Reads behind what is kept, which has no newline, until a line is whole.
+    fn read_line(
+        &mut self,
+        rt: &impl Eprint,
+        input: &mut impl Read,
+    ) -> Option<Result<Range<usize>, TooLong>>
+        requires { NoNewline self.old.buf.now self.old.from self.old.to }
+        ensures { NextIn result self.new.buf.now }
+    {
+        while self.to < self.buf.len() {
+            let behind = self.to;
+            let Ok(more) = read_on(rt, input, "standard input", self.buf, behind) else {
+                self.from = behind;
+                return self.last().map(Ok);
+            };
+            if more == 0 {
+                return self.last().map(Ok);
+            }
+            self.to += more;
+            let end = self.newline(behind);
+            if end < self.to {
+                return Some(Ok(self.up_to(end)));
+            }
+        }
+        self.pass_over(rt, input);
+        Some(Err(TooLong))
+    }
+
+    // Where the next line stands: among what is kept, or read.
+    fn next_place(
+        &mut self,
+        rt: &impl Eprint,
+        input: &mut impl Read,
+    ) -> Option<Result<Range<usize>, TooLong>>
+        ensures { NextIn result self.new.buf.now }
+    {
+        let from = self.from;
+        let end = self.newline(from);
+        if end < self.to {
+            return Some(Ok(self.up_to(end)));
+        }
+        if self.ended {
+            return self.last().map(Ok);
+        }
+        self.to_front();
+        self.read_line(rt, input)
+    }
+
+    // The next line; none at the end of the input, and where reading failed, which was told.
+    pub fn next_line(
+        &mut self,
+        rt: &impl Eprint,
+        input: &mut impl Read,
+    ) -> Option<Result<&[u8], TooLong>>
+        ensures { IfSome result (λ next. IfOk next (λ line. EachIndex line.now (λ k. slice_index line.now k ≢ 10))) }
+    {
+        match self.next_place(rt, input)? {
+            Ok(line) => Some(Ok(&self.buf[line])),
+            Err(e) => Some(Err(e)),
+        }
+    }
 }

@@ -1,6 +1,6 @@
 -- Laws of pieces: where a scan for a byte ends, the first piece and the others, the first line and the others. Assumes nothing.
-use mathlib.Core.Path.{◌≡◌, refl, ap, ap₂, ◌∙◌}
-use mathlib.Core.Bool.{Bool, true, false}
+use mathlib.Core.Path.{◌≡◌, refl, sym, ap, ap₂, ◌∙◌}
+use mathlib.Core.Bool.{Bool, true, false, not}
 use mathlib.Core.List.{List, [], ◌∷◌}
 use mathlib.Core.Logic.{◌⊎◌, inl, inr}
 use Prim.Native.Nat.{ℕ, suc, ◌+◌, ◌-◌, ◌<◌, ◌≤◌}
@@ -9,7 +9,9 @@ use native.Mathlib.Omega.{arith}
 use lib.Dec.{eqb}
 use lib.ListN.{length, get_or, take, drop, length-drop, drop_of_length-le}
 use lib.Seq.{drop-cons, drop-drop, length-take-le}
-use Rattle.sets.proofs.Tests.{split}
+use Rattle.std.specs.List.{prefix_len, slice_split, onto_first}
+use borrow.Author.Tests.{eq-eqb, eqb-true}
+use Rattle.sets.proofs.Tests.{split, iff}
 use Rattle.words.specs.Lines.{pieces, on_first, line, lines_from, leading}
 
 -- where a scan from a place on ends
@@ -43,6 +45,29 @@ module _ (f : ℕ → Bool) where
       go : (f b ≡ true) ⊎ (f b ≡ false) → (leading f bs < length bs → f (get_or bs (leading f bs) 0) ≡ true) → f (get_or (b ∷ bs) (leading f (b ∷ bs)) 0) ≡ true
       go (inl e) r = rw (leading_yes b bs e) e
       go (inr e) r = rw (leading_no b bs e) (r (omega (arith, leading_no b bs e)))
+
+  -- as an iterator counts it
+  pub leading_counted : (g : ℕ → Bool) (xs : List ℕ) → ((b : ℕ) → g b ≡ not (f b)) → prefix_len g xs ≡ leading f xs
+  unfolding leading
+  leading_counted g [] h = refl
+  leading_counted g (b ∷ bs) h = go (split (f b)) (leading_counted g bs h)
+    where
+      go : (f b ≡ true) ⊎ (f b ≡ false) → prefix_len g bs ≡ leading f bs → prefix_len g (b ∷ bs) ≡ leading f (b ∷ bs)
+      go (inl e) r = rw (h b, leading_yes b bs e, e)
+      go (inr e) r = rw (h b, leading_no b bs e, e) (omega arith)
+
+  pub pieces_parts : (xs : List ℕ) → slice_split f xs ≡ pieces f xs
+  unfolding pieces
+  pieces_parts [] = refl
+  pieces_parts (b ∷ bs) = go (split (f b)) (pieces_parts bs)
+    where
+      put : (ps : List (List ℕ)) → onto_first b ps ≡ on_first b ps
+      put [] = refl
+      put (p ∷ ps) = refl
+
+      go : (f b ≡ true) ⊎ (f b ≡ false) → slice_split f bs ≡ pieces f bs → slice_split f (b ∷ bs) ≡ pieces f (b ∷ bs)
+      go (inl e) r = rw (pieces, e) (ap (λ (ps : List (List ℕ)). [] ∷ ps) r)
+      go (inr e) r = rw (pieces, e, r) (put (pieces f bs))
 
   -- ---- a scan from a place on
 
@@ -113,3 +138,7 @@ module _ (t : List ℕ) (i e : ℕ) (h : i ≤ length t) (d : e ≡ stop (eqb 10
 
       rest : drop (suc first) (drop i t) ≡ drop (e + 1) t
       rest = drop-drop (suc first) i t ∙ ap (λ (j : ℕ). drop j t) (let q : i + suc first ≡ e + 1 = omega arith in q)
+
+-- the code tests the byte against 10 and not 10 against the byte
+pub line_end_tested : (b : ℕ) → not (eqb b 10) ≡ not (eqb 10 b)
+line_end_tested b = ap not (iff (eqb b 10) (eqb 10 b) (λ t. eq-eqb 10 b (sym (eqb-true b 10 t))) (λ t. eq-eqb b 10 (sym (eqb-true 10 b t))))

@@ -1,28 +1,34 @@
 -- Laws of what a line's words say, by their number and the first of them. Assumes nothing.
-use mathlib.Core.Path.{◌≡◌, refl}
-use mathlib.Core.Bool.{true, false, cond}
+use mathlib.Core.Path.{◌≡◌, refl, sym, ◌∙◌}
+use mathlib.Core.Bool.{true, false, cond, ◌&&◌, true≢false}
 use mathlib.Core.List.{List, [], ◌∷◌}
 use mathlib.Core.Logic.{◌⊎◌, inl, inr}
-use Prim.Native.Nat.{ℕ, ◌<◌, ◌≤◌}
+use Prim.Native.Nat.{ℕ}
 use native.Mathlib.Omega.{arith}
 use lib.Dec.{eqb}
 use lib.ListN.{length, get_or}
 use Rattle.sets.specs.Lists.{same}
-use Rattle.sets.proofs.Tests.{split}
+use lib.Pointwise.{pointwise, bytes_decides}
+use borrow.Author.Tests.{eq-eqb, eqb-true}
+use Rattle.std.specs.List.{starts_with}
+use Rattle.sets.proofs.Tests.{split, iff, and_left, and_intro}
 use Rattle.sets.proofs.ListLaws.{same_of}
 use Rattle.words.specs.Lines.{comment, part_word, link_word, after_part, after_link, words_say, silent, part_said, link_said, neither}
 
 -- ---- the first word
 
-pub comment_some : (w : List ℕ) → 0 < length w → eqb (get_or w 0 0) 35 ≡ comment w
+pub comment_tested : (w : List ℕ) → starts_with eqb w (35 ∷ []) ≡ comment w
 unfolding comment
-comment_some [] h = absurd (omega arith)
-comment_some (b ∷ bs) h = refl
+comment_tested [] = refl
+comment_tested (b ∷ bs) = iff (eqb 35 b && true) (eqb b 35) (λ t. eq-eqb b 35 (sym (eqb-true 35 b (and_left (eqb 35 b) true t))))
+    (λ t. and_intro (eqb 35 b) true (eq-eqb 35 b (sym (eqb-true b 35 t))) refl)
 
-pub comment_none : (w : List ℕ) → length w ≤ 0 → false ≡ comment w
-unfolding comment
-comment_none [] h = refl
-comment_none (b ∷ bs) h = absurd (omega arith)
+-- as `==` tests it
+pub word_same : (w v : List ℕ) → true ≡ pointwise eqb w v → w ≡ v
+word_same w v e = (bytes_decides w v).0 (sym e)
+
+pub word_other : (w v : List ℕ) → false ≡ pointwise eqb w v → w ≡ v → ⊥
+word_other w v e p = true≢false (sym ((bytes_decides w v).1 p) ∙ sym e)
 
 -- ---- the line
 

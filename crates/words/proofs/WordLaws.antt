@@ -1,21 +1,65 @@
 -- Laws of the words of a line, and of the places where they start. Assumes nothing.
 use mathlib.Core.Path.{◌≡◌, refl, sym, ap, ap₂, ◌∙◌}
-use mathlib.Core.Bool.{Bool, true, false, not, ◌&&◌}
+use mathlib.Core.Bool.{Bool, true, false, not, not-not, ◌&&◌}
 use mathlib.Core.List.{List, [], ◌∷◌}
 use mathlib.Core.Logic.{◌⊎◌, inl, inr}
 use Prim.Native.Nat.{ℕ, suc, ◌+◌, ◌-◌, ◌<◌, ◌≤◌}
+use native.Mathlib.Numerals.{add-one}
 use native.Mathlib.Omega.{arith}
-use borrow.Author.Tests.{not-true}
+use borrow.Author.Tests.{not-true, ne_eqb}
 use lib.ListN.{length, get_or, take, drop, length-drop, drop_of_length-le, get_or-eq_default}
-use lib.Seq.{drop-cons, drop-drop, get_or-drop}
+use lib.Seq.{take_all, drop-cons, drop-drop, get_or-drop}
+use lib.Dec.{eqb}
+use Rattle.std.specs.List.{filter, prefix_len, slice_split}
 use Rattle.sets.specs.Lists.{all, keep}
 use Rattle.sets.proofs.Tests.{split, lt_or_le, and_intro, and_left, and_right}
 use Rattle.sets.proofs.ListLaws.{keep_yes, keep_no, keep_of, all_of, get_d_member}
 use Rattle.words.specs.Lines.{pieces, on_first, blank, some_bytes, words, leading, WordAt}
-use Rattle.words.proofs.Pieces.{leading_yes, leading_no, leading_le, leading_at, pieces_last, pieces_more, pieces_on, line_end_fits}
+use Rattle.words.proofs.Pieces.{leading_counted, leading_yes, leading_no, leading_le, leading_at, pieces_last, pieces_more, pieces_on, pieces_parts, line_end_fits}
 
 abbrev pub printed : ℕ → Bool
 printed b = not (blank b)
+
+-- as an iterator gives them: the pieces that are not empty
+
+keep_filter : (g : List ℕ → Bool) (ws : List (List ℕ)) → ((w : List ℕ) → g w ≡ some_bytes w) → filter g ws ≡ keep some_bytes ws
+unfolding keep
+keep_filter g [] h = refl
+keep_filter g (w ∷ ws) h = go (split (some_bytes w)) (keep_filter g ws h)
+  where
+    go : (some_bytes w ≡ true) ⊎ (some_bytes w ≡ false) → filter g ws ≡ keep some_bytes ws → filter g (w ∷ ws) ≡ keep some_bytes (w ∷ ws)
+    go (inl e) r = rw (h w, keep_yes some_bytes w ws e, e) (ap (λ (l : List (List ℕ)). w ∷ l) r)
+    go (inr e) r = rw (h w, keep_no some_bytes w ws e, e) r
+
+some_tested : (w : List ℕ) → not (eqb (length w) 0) ≡ some_bytes w
+unfolding some_bytes
+some_tested [] = refl
+some_tested (b ∷ bs) = ap not (ne_eqb (suc (length bs)) 0 (λ e. omega (arith, e)))
+
+pub words_counted : (l : List ℕ) → filter (λ w. not (eqb (length w) 0)) (slice_split blank l) ≡ words l
+unfolding words
+words_counted l = ap (filter (λ w. not (eqb (length w) 0))) (pieces_parts blank l) ∙ keep_filter _ (pieces blank l) some_tested
+
+-- ---- a scan from a place on, as an iterator counts it
+
+-- the part of a line from a place on
+behind : (l : List ℕ) (i : ℕ) → take (length l - i) (drop i l) ≡ drop i l
+behind l i = take_all (length l - i) (drop i l) (omega (arith, length-drop i l))
+
+pub scan_blanks : (l : List ℕ) (i n : ℕ) → i ≤ length l → n ≡ prefix_len blank (take (length l - i) (drop i l))
+    → (i + n ≡ i + leading printed (drop i l)) × (i + n ≤ length l)
+scan_blanks l i n h e =
+    let d : n ≡ leading printed (drop i l) =
+    e ∙ ap (prefix_len blank) (behind l i) ∙ leading_counted printed blank (drop i l) (λ b. sym (not-not (blank b))) in
+    (ap (λ (k : ℕ). i + k) d, omega (arith, d, leading_le printed (drop i l), length-drop i l))
+
+pub scan_printed : (l : List ℕ) (i n : ℕ) → i < length l → n ≡ prefix_len (λ b. not (blank b)) (take (length l - (i + 1)) (drop (i + 1) l))
+    → (i + 1 + n ≡ suc i + leading blank (drop (suc i) l)) × (i + 1 + n ≤ length l)
+scan_printed l i n h e =
+    let d : n ≡ leading blank (drop (suc i) l) =
+    e ∙ ap (prefix_len (λ b. not (blank b))) (behind l (i + 1)) ∙ leading_counted blank (λ b. not (blank b)) (drop (i + 1) l) (λ b. refl)
+    ∙ ap (λ (k : ℕ). leading blank (drop k l)) (add-one i) in
+    (omega (arith, d), omega (arith, d, leading_le blank (drop (suc i) l), length-drop (suc i) l))
 
 -- ---- a line from its first byte
 

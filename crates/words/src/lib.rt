@@ -1,11 +1,12 @@
 #![tactic(auto)]
 
 // Bytes as lines and words: where a line ends, its words, and which of the text's forms it has.
-ghost use Rattle.std.specs.Prelude.{◌≡◌, not, [], ℕ, suc, ◌+◌, ◌<◌, ◌≤◌, eqb, length, get_or, drop};
-ghost use Rattle.words.specs.Lines.{line_of, blank, words, comment, words_say, leading, formed, WordAt};
+ghost use Rattle.std.specs.Prelude.{◌≡◌, not, [], ℕ, suc, ◌+◌, ◌<◌, ◌≤◌, ◌==◌, eqb, length, get_or, drop, filter};
+ghost use Rattle.std.specs.List.{prefix_len};
+ghost use Rattle.words.specs.Lines.{line_of, blank, words, words_say, leading, formed, WordAt};
 
 // The forms of a line. A blank line or a comment is silent.
-#[derive(Clone, Copy)]
+#[derive(Clone, Copy, Debug, PartialEq, Eq)]
 pub enum Form {
     Silent,
     Part,
@@ -13,38 +14,38 @@ pub enum Form {
     Neither,
 }
 
+// The words that a part's line and a link's begin with.
+const PART: &[u8] = b"part";
+
+const LINK: &[u8] = b"link";
+
 // ---- lines
+
+fn count_line_ends(text: &[u8]) -> usize
+    ensures { (result ≡ length (filter (λ b. b == 10) text.now)) × (result ≤ length text.now) }
+{
+    text.iter().filter(|b| **b == b'\n').count()
+}
 
 // The number, from 1, of the line that holds the byte at place.
 pub fn line_of(text: &[u8], place: usize) -> usize
     ensures { result ≡ line_of text.now place }
 {
-    let mut n = 1;
-    let mut i = 0;
-    while i < place {
-        if text.len() <= i {
-            return n;
-        }
-        if text[i] == b'\n' {
-            n += 1;
-        }
-        i += 1;
-    }
-    n
+    count_line_ends(&text[..place.min(text.len())]) + 1
+}
+
+// How many bytes of the line are to come at `at`.
+fn to_line_end(text: &[u8], at: usize) -> usize
+    ensures { (result ≡ prefix_len (λ b. not (b == 10)) (drop at text.now)) × (result ≤ length (drop at text.now)) }
+{
+    text.iter().skip(at).take_while(|b| **b != b'\n').count()
 }
 
 // Where the line that starts at `at` ends: at a byte 10, or at the end of the text.
 pub fn line_end(text: &[u8], at: usize) -> usize
     ensures { result ≡ at + leading (eqb 10) (drop at text.now) }
 {
-    let mut i = at;
-    while i < text.len() {
-        if text[i] == b'\n' {
-            return i;
-        }
-        i += 1;
-    }
-    i
+    at + to_line_end(text, at)
 }
 
 // ---- words
@@ -53,7 +54,21 @@ pub fn line_end(text: &[u8], at: usize) -> usize
 fn is_blank(b: u8) -> bool
     ensures { result ≡ blank b }
 {
-    b == b' ' || (b == b'\t' || b == b'\r')
+    matches!(b, b' ' | b'\t' | b'\r')
+}
+
+// How many blank bytes stand at the start.
+fn leading_blanks(s: &[u8]) -> usize
+    ensures { (result ≡ prefix_len blank s.now) × (result ≤ length s.now) }
+{
+    s.iter().take_while(|b| is_blank(**b)).count()
+}
+
+// How many bytes stand before the first that is blank.
+fn leading_printed(s: &[u8]) -> usize
+    ensures { (result ≡ prefix_len (λ b. not (blank b)) s.now) × (result ≤ length s.now) }
+{
+    s.iter().take_while(|b| !is_blank(**b)).count()
 }
 
 // The first byte from `at` on that is not blank; the line's length where there is none.
@@ -61,14 +76,7 @@ fn skip_blanks(line: &[u8], at: usize) -> usize
     requires { at ≤ length line.now }
     ensures { (result ≡ at + leading (λ b. not (blank b)) (drop at line.now)) × (result ≤ length line.now) }
 {
-    let mut i = at;
-    while i < line.len() {
-        if !is_blank(line[i]) {
-            return i;
-        }
-        i += 1;
-    }
-    i
+    at + leading_blanks(&line[at..])
 }
 
 // The end of the word that starts at `at`.
@@ -76,14 +84,7 @@ fn word_end(line: &[u8], at: usize) -> usize
     requires { at < length line.now }
     ensures { (result ≡ suc at + leading blank (drop (suc at) line.now)) × (result ≤ length line.now) }
 {
-    let mut i = at + 1;
-    while i < line.len() {
-        if is_blank(line[i]) {
-            return i;
-        }
-        i += 1;
-    }
-    i
+    at + 1 + leading_printed(&line[at + 1..])
 }
 
 // Where the word after the one that starts at `at` starts; the line's length where there is none.
@@ -98,13 +99,9 @@ fn next_word(line: &[u8], at: usize) -> usize
 pub fn count_words(line: &[u8]) -> usize
     ensures { result ≡ length (words line.now) }
 {
-    let mut at = skip_blanks(line, 0);
-    let mut n = 0;
-    while at < line.len() {
-        at = next_word(line, at);
-        n += 1;
-    }
-    n
+    line.split(|b| is_blank(*b))
+        .filter(|w| !w.is_empty())
+        .count()
 }
 
 // Where word n of a line, counted from 0, starts; the line's length where it has no such word.
@@ -112,13 +109,11 @@ fn word_start(line: &[u8], n: usize) -> usize
     ensures { WordAt line.now n result }
 {
     let mut at = skip_blanks(line, 0);
-    let mut i = 0;
-    while i < n {
+    for _ in 0..n {
         if line.len() <= at {
             return at;
         }
         at = next_word(line, at);
-        i += 1;
     }
     at
 }
@@ -136,29 +131,15 @@ pub fn word(line: &[u8], n: usize) -> &[u8]
     &line[start..end]
 }
 
-fn is_comment(first: &[u8]) -> bool
-    ensures { result ≡ comment first.now }
-{
-    if 0 < first.len() {
-        first[0] == b'#'
-    } else {
-        false
-    }
-}
-
 pub fn form_of(line: &[u8]) -> Form
     ensures { formed result (words line.now) ≡ words_say (words line.now) }
 {
-    let n = count_words(line);
     let first = word(line, 0);
-    if n == 0 || is_comment(first) {
-        return Form::Silent;
+    match count_words(line) {
+        0 => Form::Silent,
+        _ if first.starts_with(b"#") => Form::Silent,
+        2 if first == PART => Form::Part,
+        4 if first == LINK => Form::Link,
+        _ => Form::Neither,
     }
-    if n == 2 && check::same(first, b"part") {
-        return Form::Part;
-    }
-    if n == 4 && check::same(first, b"link") {
-        return Form::Link;
-    }
-    Form::Neither
 }

@@ -6,20 +6,17 @@ use Rattle.dump.proofs.Added.{added_to, added_none, added_more}
 use Rattle.dump.proofs.pair_sum.Goals as goal
 
 pub loop-i-init : goal.loop-i-init
-loop-i-init c = (omega arith, omega arith, sym (added_none pairs_in (row_of c.args.d.now)))
+loop-i-init c = (omega arith, sym (added_none pairs_in (row_of c.args.d.now)))
 
 pub loop-i-preserved : goal.loop-i-preserved
 loop-i-preserved c =
     let l = c.loop-i in
-    let here = c.pairs_in-pairs.ensures.0 ∙ ap pairs_in c.row.ensures.0 in (
-      omega (arith, c.loop-i-test.true),
-      omega (arith, l.invariant.1, c.pairs_in-pairs.ensures.1),
-      omega (arith, l.invariant.2, here, added_more pairs_in (row_of c.args.d.now) l.i),
-    )
+    let here = c.pairs_in-pairs.ensures.0 ∙ ap pairs_in c.row.ensures.0 in
+    (omega arith, omega (arith, here, added_more pairs_in (row_of c.args.d.now) l.i))
 
 pub returns : goal.returns
 unfolding tripped
 returns c =
     let l = c.loop-i in
     let d = c.args.d.now in
-    l.invariant.2 ∙ ap (added_to pairs_in (row_of d)) (let e : l.i ≡ rows_in d = omega (arith, l.invariant.0, c.row_count-n.ensures.0) in e)
+    l.invariant.1 ∙ ap (added_to pairs_in (row_of d)) (let e : l.i ≡ rows_in d = omega arith in e)

@@ -1,52 +1,26 @@
-use mathlib.Core.Path.{◌≡◌, refl, sym, ◌∙◌}
-use mathlib.Core.Bool.{Bool, true}
-use Prim.Native.Nat.{ℕ, ◌≤◌}
+use mathlib.Core.Path.{◌≡◌}
+use mathlib.Core.Bool.{true}
 use native.Mathlib.Omega.{arith}
-use lib.ListN.{length-replicate}
-use lib.Seq.{length-take-le}
-use Rattle.percolation.specs.Ranges.{narrow_count}
-use Rattle.percolation.proofs.Ranges.{narrow_count_lem}
-use Rattle.fullest.proofs.Full.{full_four, full_ten, full_written}
+use Rattle.std.proofs.lemmas.Result.{err_from_is_err_and}
+use Rattle.answers.proofs.Laws.{then_go, then_stop, unless_passed}
+use Rattle.percolation.specs.Ranges.{narrow_count, good_k}
+use Rattle.fullest.specs.Fullest.{check_full}
+use Rattle.fullest.proofs.Full.{full_refused, full_written}
 use Rattle.fullest.proofs.sheet.Goals as goal
 
--- past the first test there are at most 64 parts
-few : (p : ℕ) (b : Bool) → b ≡ narrow_count p → b ≡ true → p ≤ 64
-few p b e h = (narrow_count_lem p (sym e ∙ h)).1
+pub returns-in_err-require : goal.returns-in_err-require
+unfolding check_full
+returns-in_err-require c =
+    let p = err_from_is_err_and c.from_residual.result c.from_residual.ensures.1 in full_refused _ _ _ _ p.0 p.1 (grind (arith, then_stop))
 
-pub returns-then-not-narrow_count : goal.returns-then-not-narrow_count
-returns-then-not-narrow_count c = full_four _ _ _ _ _ (sym c.narrow_count.ensures ∙ c.if-not-narrow_count.true) refl refl
-
-pub returns-then-not-good_k : goal.returns-then-not-good_k
-returns-then-not-good_k c =
-    full_ten _ _ _ _ _ (sym c.narrow_count.ensures ∙ c.if-not-narrow_count.false)
-    (sym c.good_k.ensures ∙ c.if-not-good_k.true) refl refl
-
-pub name_parts-requires : goal.name_parts-requires
-name_parts-requires c = (few _ _ c.narrow_count.ensures c.if-not-narrow_count.false, refl)
-
-pub overflow_mul-end : goal.overflow_mul-end
-overflow_mul-end c =
-    let n = few _ _ c.narrow_count.ensures c.if-not-narrow_count.false in
-    omega (arith, n)
-
-pub slice_bounds-names-end : goal.slice_bounds-names-end
-slice_bounds-names-end c =
-    let n = few _ _ c.narrow_count.ensures c.if-not-narrow_count.false in
-    omega (arith, n)
-
-pub slice_bounds-write_weighed-end : goal.slice_bounds-write_weighed-end
-slice_bounds-write_weighed-end c =
-    let n = few _ _ c.narrow_count.ensures c.if-not-narrow_count.false in
-    sym (length-take-le _ _ (omega (arith, n, c.name_parts.auto)))
-
-pub write_weighed-requires : goal.write_weighed-requires
-write_weighed-requires c =
-    (few _ _ c.narrow_count.ensures c.if-not-narrow_count.false, length-replicate {A = ℕ} 4096 1)
+pub returns-in_err-require-2 : goal.returns-in_err-require-2
+unfolding check_full
+returns-in_err-require-2 c =
+    let p = err_from_is_err_and c.from_residual-in_err-require-2.result c.from_residual-in_err-require-2.ensures.1 in
+    full_refused _ _ _ _ p.0 p.1 (grind (arith, then_go, then_stop))
 
 pub returns : goal.returns
 returns c =
-    let n = c in
-    let d = n in
-    full_written _ _ _ _ _ (sym c.narrow_count.ensures ∙ c.if-not-narrow_count.false)
-    (sym n.good_k.ensures ∙ n.if-not-good_k.false) _ n.name_parts.ensures
-    c.write_weighed.ensures
+    let n : narrow_count c.args.p ≡ true = grind (arith, unless_passed) in
+    let g : good_k c.args.k ≡ true = grind (arith, unless_passed) in
+    full_written _ _ _ _ _ n g _ c.name_parts.ensures c.write_weighed.ensures

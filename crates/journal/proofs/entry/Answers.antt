@@ -1,5 +1,5 @@
+use Rattle.std.proofs.Common.{rules}
 use Rattle.journal.specs.Journal.{journal_entry}
-use borrow.Author.Rules.{rules}
 use Rattle.journal.proofs.entry.Goals as goal
 
 pub returns : goal.returns

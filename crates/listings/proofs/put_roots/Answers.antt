@@ -6,13 +6,12 @@ use Rattle.listings.proofs.put_roots.Goals as goal
 use Rattle.listings.proofs.put_roots.Goals.{then-is_root, else-is_root}
 
 pub loop-i-init : goal.loop-i-init
-loop-i-init c = (omega arith, omega arith, filled_none _ _ _ _)
+loop-i-init c = (omega arith, filled_none _ _ _ _)
 
 pub put-requires : goal.put-requires
 put-requires c =
     let l = c.loop-i in
-    filled_room _ _ _ _ l.i l.n l.out l.invariant.2 (sym c.is_root.ensures ∙ c.if-is_root.true) _
-    c.requires c.loop-i-test.true
+    filled_room _ _ _ _ l.i l.n l.out l.invariant.1 (sym c.is_root.ensures ∙ c.if-is_root.true) _ c.requires c.loop-i-test.true
 
 pub loop-i-preserved : goal.loop-i-preserved
 loop-i-preserved c =
@@ -21,19 +20,15 @@ loop-i-preserved c =
     elim c.if-is_root.branch [
       | then-is_root w ↦
           let e = t ∙ w.if-is_root.true in
-          let room = filled_room _ _ _ _ l.i l.n l.out l.invariant.2 e _ c.requires c.loop-i-test.true in (
+          let room = filled_room _ _ _ _ l.i l.n l.out l.invariant.1 e _ c.requires c.loop-i-test.true in (
             omega arith,
-            omega arith,
-            filled_yes _ _ _ _ l.i l.n l.out l.invariant.2 e _ _ _ _ _ w.at.ensures w.at-then-is_root.ensures
+            filled_yes _ _ _ _ l.i l.n l.out l.invariant.1 e _ _ _ _ _ w.at.ensures w.at-then-is_root.ensures
                 (held w.at.result w.at.type_inv) room w.put.ensures w.put.auto.out w.n-is w.out-is,
           )
-      | else-is_root w ↦ (omega arith, omega arith, filled_no _ _ _ _ l.i l.n l.out l.invariant.2 _ _ (t ∙ w.if-is_root.false) w.n-is w.out-is)
+      | else-is_root w ↦ (omega arith, filled_no _ _ _ _ l.i l.n l.out l.invariant.1 _ _ (t ∙ w.if-is_root.false) w.n-is w.out-is)
     ]
-
-pub shape_of-out : goal.shape_of-out
-shape_of-out c = c.loop-i.invariant.2.long
 
 pub returns : goal.returns
 returns c =
     let l = c.loop-i in
-    filled_end _ _ _ _ l.i l.n l.out l.invariant.2 _ (omega arith)
+    filled_end _ _ _ _ l.i l.n l.out l.invariant.1 _ (omega arith)

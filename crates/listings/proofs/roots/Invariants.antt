@@ -1,12 +1,9 @@
+use Prim.Native.Nat.{◌≤◌}
 use mathlib.Core.Path.{◌≡◌}
-use Prim.Native.Nat.{◌≤◌, ◌-◌}
 use lib.ListN.{length}
 use Rattle.listings.specs.Model.{root_slots}
 use Rattle.listings.proofs.roots.Given as goal
 
 -- The invariant: n counts the ends among the slots below i. Assumes nothing.
 abbrev pub invariant-loop-i : goal.invariant-loop-i
-invariant-loop-i l = (l.i ≤ l.used) × (l.n ≤ l.i) × (l.n ≡ length (root_slots l.entries l.i))
-
-abbrev pub decreases-loop-i : goal.decreases-loop-i
-decreases-loop-i l = l.used - l.i
+invariant-loop-i l = (l.n ≤ l.i) × (l.n ≡ length (root_slots l.entries l.i))

@@ -1,15 +1,16 @@
-use native.Mathlib.Omega.{arith}
-use Rattle.meeting_maximal.proofs.Joined.{none_first, none_next, none_at, holds_here}
+use mathlib.Core.Bool.{Bool, true, false}
+use mathlib.Core.Path.{◌≡◌}
+use Prim.Native.Nat.{ℕ}
+use Rattle.std.proofs.Common.{rules, tests}
+use Rattle.std.proofs.lemmas.Iterator.{first_from_Range}
+use Rattle.sets.specs.Sets.{sub}
+use Rattle.sets.specs.Value.{num, row}
+use Rattle.meeting_maximal.proofs.Joined.{first_found}
 use Rattle.meeting_maximal.proofs.holder.Goals as goal
 
-pub loop-i-init : goal.loop-i-init
-loop-i-init c = (omega arith, none_first _ _)
-
-pub returns-then-subset : goal.returns-then-subset
-returns-then-subset c = (omega arith, c.loop-i.invariant.1, λ h. holds_here _ _ _ _ c.at.ensures c.subset.ensures c.if-subset.true)
-
-pub loop-i-preserved : goal.loop-i-preserved
-loop-i-preserved c = (omega arith, none_next _ _ _ _ (omega arith) c.loop-i.invariant.1 (holds_here _ _ _ _ c.at.ensures c.subset.ensures c.if-subset.false))
-
 pub returns : goal.returns
-returns c = (omega arith, none_at _ _ c.loop-i.i _ (omega arith) c.loop-i.invariant.1, λ h. absurd (omega arith))
+returns c =
+    let a = c.args in
+    let holds = λ (t : Bool) (i : ℕ). sub (num a.s) (row a.table.now i) ≡ t in
+    first_found a.table.now a.n (num a.s) _
+    (first_from_Range _ _ _ _ (holds true) (holds false) c.find.ensures.ran (λ x q k. search (rules, tests)) (λ x q k. search (rules, tests)))

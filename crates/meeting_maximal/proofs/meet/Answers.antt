@@ -1,19 +1,24 @@
-use mathlib.Core.Path.{refl}
-use Rattle.runs.proofs.Admitted.{told_fine}
-use Rattle.meeting.proofs.Calls.{meet_stopped, meet_ran}
+use mathlib.Core.Path.{◌∙◌}
+use Rattle.std.proofs.lemmas.Result.{err_from_is_err_and}
+use Rattle.sheet.proofs.Said.{said_holds}
+use Rattle.runs.proofs.Left.{cleared_lent}
+use Rattle.meeting.proofs.Calls.{meet_stopped, meet_ran, pair_viewed}
 use Rattle.meeting_maximal.proofs.Asked.{meeting_asks}
 use Rattle.meeting_maximal.proofs.meet.Goals as goal
 
+pub returns-in_err-counts-clause-meets : goal.returns-in_err-counts-clause-meets
+returns-in_err-counts-clause-meets c =
+    let p = err_from_is_err_and c.from_residual.result c.from_residual.ensures.1 in
+    rw (p.1, p.2) (meet_stopped _ _ _ _ _ _ _ (pair_viewed _ _ _ _ _ _ _ (c.view.ensures 0) c.in_err-counts.ensures))
+
 pub over_levels-met-requires : goal.over_levels-met-requires
 over_levels-met-requires c =
-    let f = told_fine _ _ _ c.admit.ensures _ _ c.in-Fine.is in
+    let f = said_holds _ _ _ _ (pair_viewed _ _ _ _ _ _ _ (c.view.ensures 0) c.in_ok-counts.ensures) in
     let q = meeting_asks _ _ _ _ _ f.0 in
     (q.0, f.1, f.2, q.1, q.2, q.3, q.4)
 
-pub returns-in-Faulty : goal.returns-in-Faulty
-returns-in-Faulty c = meet_stopped _ _ _ _ _ _ _ _ c.admit.ensures _ _ c.in-Faulty.is refl
-
-pub returns-in-Fine : goal.returns-in-Fine
-returns-in-Fine c =
-    let ran = c.over_levels-met in
-    meet_ran _ _ _ _ _ _ _ _ c.admit.ensures _ _ c.in-Fine.is _ _ ran.ensures c.clear.ensures ran.auto.sets refl refl refl
+pub returns-clause-meets : goal.returns-clause-meets
+returns-clause-meets c =
+    let r = c.over_levels-met.ensures in
+    meet_ran _ _ _ _ _ _ _ _ (pair_viewed _ _ _ _ _ _ _ (c.view.ensures 0) c.in_ok-counts.ensures) _ _ r.run
+    (c.clear.ensures.tables_after ∙ cleared_lent _ _ r.lent 0 0)

@@ -1,11 +1,7 @@
-use Prim.Native.Nat.{◌≤◌}
 use Rattle.sets.specs.Value.{num}
 use Rattle.meeting_sequential.proofs.Turns.{Later}
 use Rattle.meeting_sequential.proofs.complete.Given as goal
 
 -- The invariant: no link from j on has both ends in s. Assumes nothing.
 abbrev pub invariant-loop-j : goal.invariant-loop-j
-invariant-loop-j l = (l.j ≤ l.m) × Later l.sheet (num l.s) l.j
-
-abbrev pub decreases-loop-j : goal.decreases-loop-j
-decreases-loop-j l = l.j
+invariant-loop-j l = Later l.sheet (num l.s) l.j

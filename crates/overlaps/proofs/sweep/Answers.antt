@@ -8,7 +8,7 @@ use Rattle.overlaps.proofs.sweep.Goals.{then-k-count, else-k-count}
 use Rattle.overlaps.proofs.sweep.Goals as goal
 
 pub loop-j-init : goal.loop-j-init
-loop-j-init c = (omega arith, omega arith, c.requires, refl, refl)
+loop-j-init c = (omega arith, omega arith, refl)
 
 pub overflow_add-count : goal.overflow_add-count
 overflow_add-count c = let m = c.meet in omega (arith, c.count.ensures, size_le width _ (held m.result m.type_inv))
@@ -20,23 +20,16 @@ loop-j-preserved c =
       | then-k-count w ↦ (
         omega (arith, w.e-is),
         omega (arith, w.e-is),
-        omega arith,
-        c.if-k-count.auto.table ∙ l.invariant.3,
-        sweep_near _ _ _ _ _ _ _ _ _ (omega arith) c.at.ensures c.meet.ensures c.count.ensures l.invariant.4 w.if-k-count.true
+        sweep_near _ _ _ _ _ _ _ _ _ (omega arith) c.at.ensures c.meet.ensures c.count.ensures l.invariant.2 w.if-k-count.true
             (w.table-is ∙ w.swap.ensures) w.e-is,
       )
       | else-k-count w ↦ (
         omega (arith, w.e-is),
         omega (arith, w.e-is),
-        omega arith,
-        c.if-k-count.auto.table ∙ l.invariant.3,
-        sweep_far _ _ _ _ _ _ _ _ _ (omega arith) c.at.ensures c.meet.ensures c.count.ensures l.invariant.4 w.if-k-count.false
+        sweep_far _ _ _ _ _ _ _ _ _ (omega arith) c.at.ensures c.meet.ensures c.count.ensures l.invariant.2 w.if-k-count.false
             w.table-is w.e-is,
       )
     ]
 
-pub shape_of-table : goal.shape_of-table
-shape_of-table c = c.loop-j.invariant.3
-
 pub returns : goal.returns
-returns c = let l = c.loop-j in record { result_after = sweep_done _ _ _ _ _ _ (omega arith) l.invariant.4; lower_bound = (omega arith, omega arith) }
+returns c = let l = c.loop-j in record { result_after = sweep_done _ _ _ _ _ _ (omega arith) l.invariant.2; lower_bound = (omega arith, omega arith) }

@@ -1,6 +1,5 @@
 use mathlib.Core.Path.{◌≡◌}
 use Prim.Native.Nat.{◌≤◌, ◌-◌}
-use lib.ListN.{length}
 use Rattle.sets.specs.Value.{num}
 use Rattle.overlaps.specs.Model.{swept_from}
 use Rattle.overlaps.proofs.sweep.Given as goal
@@ -8,8 +7,5 @@ use Rattle.overlaps.proofs.sweep.Given as goal
 -- The invariant: sweeping the rows that are left gives what sweeping all of them gives. Assumes nothing.
 abbrev pub invariant-loop-j : goal.invariant-loop-j
 invariant-loop-j l =
-    (l.end ≤ l.e) × (l.e ≤ l.j) × (l.j ≤ l.n) × (length l.table ≡ length l.initial.table)
+    (l.end ≤ l.e) × (l.e ≤ l.j)
     × (swept_from (l.n - l.end) l.k (num l.s) l.initial.table l.end l.end ≡ swept_from (l.n - l.j) l.k (num l.s) l.table l.e l.j)
-
-abbrev pub decreases-loop-j : goal.decreases-loop-j
-decreases-loop-j l = l.n - l.j

@@ -1,18 +1,16 @@
-use native.Mathlib.Omega.{arith}
+use borrow.Author.Tests.{lt-leb}
+use mathlib.Core.Path.{◌∙◌}
 use Rattle.page.proofs.Counts.{good_broken, good_many, good_known}
 use Rattle.page.proofs.good_lines.Goals as goal
 
-pub returns-then-not-is_whole : goal.returns-then-not-is_whole
-returns-then-not-is_whole c =
-    good_broken c.args.p c.args.lines.now _ c.is_whole.ensures (c.if-not-is_whole.true)
+pub returns-else-is_whole : goal.returns-else-is_whole
+returns-else-is_whole c = c.if-is_whole.false ∙ good_broken c.args.p c.args.lines.now _ c.is_whole.ensures c.if-is_whole.false
 
-pub returns-then-n-gt999999 : goal.returns-then-n-gt999999
-returns-then-n-gt999999 c =
-    good_many c.args.p c.args.lines.now _ c.is_whole.ensures (c.if-not-is_whole.false) _
-    c.line_count-n.ensures c.if-n-gt999999.true
+pub returns-else-few : goal.returns-else-few
+returns-else-few c =
+    lt-leb _ _ c.if-few.false
+    ∙ good_many c.args.p c.args.lines.now _ c.is_whole.ensures c.if-is_whole.true _ c.line_count-n.ensures c.if-few.false
 
-pub returns : goal.returns
-returns c =
-    good_known c.args.p c.args.lines.now _ c.is_whole.ensures
-    (c.if-not-is_whole.false) _ c.line_count-n.ensures _ (omega (arith, c.if-n-gt999999.false))
-    c.all_known.ensures
+pub returns-then-few : goal.returns-then-few
+returns-then-few c =
+    good_known c.args.p c.args.lines.now _ c.is_whole.ensures c.if-is_whole.true _ c.line_count-n.ensures _ c.if-few.true c.all_known.ensures

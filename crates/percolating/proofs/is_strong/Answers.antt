@@ -11,4 +11,4 @@ pub returns : goal.returns
 returns c =
     let a = c.args in
     c.strong_enough.ensures
-    ∙ ap (λ (x : ℕ). strong_enough a.measure (weakest_of (table_weights a.weights.now x)) (get_or a.products.now a.i nan)) c.at-set.ensures
+    ∙ ap (λ (x : ℕ). strong_enough a.measure (weakest_of (table_weights a.weights.now x)) (get_or a.list.products.now a.i nan)) c.at-set.ensures

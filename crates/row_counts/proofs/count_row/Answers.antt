@@ -1,29 +1,35 @@
-use mathlib.Core.Path.{sym, ◌∙◌}
-use Rattle.row_counts.proofs.Peeling.{lowest_answer, part_below, fewer, row_done, rest_fits, rest_room, row_more}
+use mathlib.Core.Path.{refl, sym, ap, ◌∙◌, subst⁻¹}
+use Prim.Native.Nat.{ℕ}
+use Rattle.sets.proofs.Given.{left_lt, given_some, given_low, given_out, given_part, given_less, none_empty}
+use Rattle.row_counts.proofs.Peeling.{RowLeft, row_done, rest_fits, rest_room, row_more}
 use Rattle.row_counts.proofs.count_row.Goals as goal
+
+pub loop-q-init : goal.loop-q-init
+loop-q-init c =
+    let q = c.requires in
+    let a = c.args in
+    let e = c.parts-parts.ensures.left ∙ c.from_word.ensures in
+    subst⁻¹ (λ (s : ℕ). RowLeft a.counts.now a.row a.counts.now s) e
+    (record { left = refl; places = q.0; fits = c.ranges.row.fits; room = q.1 })
 
 pub count_with-requires : goal.count_with-requires
 count_with-requires c =
-    let l = c.loop-rest in
-    let z = sym c.is_empty.ensures ∙ c.loop-rest-test.true in
-    let e = lowest_answer _ _ _ z c.lowest-q.ensures in
-    let g = c.without-rest.ensures in
-    (l.invariant.places, part_below _ _ z e l.invariant.fits, rest_fits _ _ _ _ l.invariant _ _ z e g, rest_room _ _ _ _ l.invariant _ _ z e g)
+    let l = c.loop-q in
+    let h = c.in-Some.ensures.steps in
+    let z = given_some _ _ _ h in
+    let e = given_low _ _ _ h in
+    let g = c.left.ensures ∙ given_out _ _ _ h in
+    (l.invariant.places, (given_part _ _ _ h).0, rest_fits _ _ _ _ l.invariant _ _ z e g, rest_room _ _ _ _ l.invariant _ _ z e g)
 
-pub loop-rest-smaller : goal.loop-rest-smaller
-loop-rest-smaller c =
-    let z = sym c.is_empty.ensures ∙ c.loop-rest-test.true in
-    let e = lowest_answer _ _ _ z c.lowest-q.ensures in
-    fewer _ _ z e _ c.without-rest.ensures
+pub loop-q-smaller : goal.loop-q-smaller
+loop-q-smaller c = given_less _ _ _ c.in-Some.ensures.steps
 
-pub loop-rest-preserved : goal.loop-rest-preserved
-loop-rest-preserved c =
-    let l = c.loop-rest in
-    let z = sym c.is_empty.ensures ∙ c.loop-rest-test.true in
-    let e = lowest_answer _ _ _ z c.lowest-q.ensures in
-    row_more _ _ _ _ l.invariant _ _ z e c.without-rest.ensures _ c.count_with.ensures
+pub loop-q-preserved : goal.loop-q-preserved
+loop-q-preserved c =
+    let l = c.loop-q in
+    let h = c.in-Some.ensures.steps in
+    subst⁻¹ (λ (s : ℕ). RowLeft c.args.counts.now c.args.row c.count_with.new.counts s) (sym c.left.ensures)
+    (row_more _ _ _ _ l.invariant _ _ (given_some _ _ _ h) (given_low _ _ _ h) (c.left.ensures ∙ given_out _ _ _ h) _ c.count_with.ensures)
 
 pub returns : goal.returns
-returns c =
-    let l = c.loop-rest in
-    row_done _ _ _ _ l.invariant (sym c.is_empty.ensures ∙ c.loop-rest-test.false)
+returns c = row_done _ _ _ _ c.loop-q.invariant (none_empty _ c.in_default.ensures.steps.0)

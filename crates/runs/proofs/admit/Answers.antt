@@ -1,22 +1,31 @@
-use mathlib.Core.Path.{refl, sym, ◌∙◌}
-use Rattle.sheet.proofs.Said.{say_faulty, say_holds}
-use Rattle.runs.proofs.Admitted.{told_faulty, told_fine, call_passes, call_faulty, call_ten, call_eleven}
+use mathlib.Core.Bool.{Bool}
+use mathlib.Core.Path.{sym, ap, ◌∙◌}
+use Rattle.std.proofs.lemmas.Result.{err_from_is_err_and}
+use Rattle.answers.specs.Verdict.{unless}
+use Rattle.sheet.proofs.Said.{say_faulty, say_holds, said_faulty, said_holds}
+use Rattle.runs.proofs.Admitted.{call_faulty, call_ten, call_past}
 use Rattle.runs.proofs.admit.Goals as goal
 
-pub returns-then-not-good_k : goal.returns-then-not-good_k
-returns-then-not-good_k c =
-    let f = told_fine _ _ _ c.in-Fine.ensures _ _ refl in
-    say_faulty _ _ _ _ (call_ten _ _ _ f.0 (sym c.good_k.ensures ∙ c.if-not-good_k.true))
+pub returns-in_err-counts : goal.returns-in_err-counts
+returns-in_err-counts c =
+    let p = err_from_is_err_and c.from_residual.result c.from_residual.ensures.1 in
+    rw (p.1, p.2) (say_faulty _ _ _ _ (call_faulty _ _ _ _ _ (said_faulty _ _ _ _ c.in_err-counts.ensures)))
 
-pub returns-then-not-level : goal.returns-then-not-level
-returns-then-not-level c =
-    let f = told_fine _ _ _ c.in-Fine.ensures _ _ refl in
-    say_faulty _ _ _ _ (call_eleven _ _ _ f.0 (sym c.good_k.ensures ∙ c.if-not-good_k.false) (sym c.level.ensures ∙ c.if-not-level.true))
+pub returns-in_err-require : goal.returns-in_err-require
+returns-in_err-require c =
+    let f = said_holds _ _ _ _ c.in_ok-counts.ensures in
+    let p = err_from_is_err_and c.from_residual-in_err-require.result c.from_residual-in_err-require.ensures.1 in
+    rw (p.1, p.2) (say_faulty _ _ _ _ (call_ten _ _ _ f.0 _ _ (sym (c.in_err-require.ensures ∙ ap (λ (b : Bool). unless b 10 0) c.good_k.ensures))))
 
-pub returns-in-Faulty : goal.returns-in-Faulty
-returns-in-Faulty c = say_faulty _ _ _ _ (call_faulty _ _ _ _ _ (told_faulty _ _ _ c.in-Faulty.ensures _ _ refl))
+pub returns-in_err-require-2 : goal.returns-in_err-require-2
+returns-in_err-require-2 c =
+    let f = said_holds _ _ _ _ c.in_ok-counts.ensures in
+    let p = err_from_is_err_and c.from_residual-in_err-require-2.result c.from_residual-in_err-require-2.ensures.1 in
+    let ten = sym (c.in_ok-require.ensures ∙ ap (λ (b : Bool). unless b 10 0) c.good_k.ensures) in
+    rw (p.1, p.2) (say_faulty _ _ _ _ (call_past _ _ _ f.0 ten _ (sym (c.in_err-require-2.ensures ∙ ap (λ (b : Bool). unless b 11 0) c.level.ensures))))
 
-pub returns-else-not-level : goal.returns-else-not-level
-returns-else-not-level c =
-    let f = told_fine _ _ _ c.in-Fine.ensures _ _ refl in
-    say_holds _ _ _ _ (call_passes _ _ _ f.0 (sym c.good_k.ensures ∙ c.if-not-good_k.false) (sym c.level.ensures ∙ c.if-not-level.false)) f.1 f.2
+pub returns : goal.returns
+returns c =
+    let f = said_holds _ _ _ _ c.in_ok-counts.ensures in
+    let ten = sym (c.in_ok-require.ensures ∙ ap (λ (b : Bool). unless b 10 0) c.good_k.ensures) in
+    say_holds _ _ _ _ (call_past _ _ _ f.0 ten _ (sym (c.in_ok-require-2.ensures ∙ ap (λ (b : Bool). unless b 11 0) c.level.ensures))) f.1 f.2

@@ -1,27 +1,34 @@
-use native.Mathlib.Omega.{arith}
-use Rattle.sequential.proofs.Inserting.{refused_meets, taken_meets}
-use Rattle.states.proofs.Checking.{insert_two, insert_room, insert_parts}
 use mathlib.Core.Path.{refl, sym, ap, ◌∙◌}
-use Rattle.slots.specs.Tables.{tables}
+use native.Mathlib.Omega.{arith}
+use Rattle.slots.specs.Tables.{Tables}
+use Rattle.slots.specs.Lent.{tables_of}
 use Rattle.states.specs.declared.State.{State}
+use Rattle.states.specs.Model.{insert_number}
+use Rattle.states.proofs.Checking.{faulted, insert_two, insert_room, insert_parts}
+use Rattle.journal.specs.Link.{as_link}
+use Rattle.sequential.proofs.Inserting.{refused_meets, taken_meets}
 use Rattle.sequential.proofs.insert.Goals as goal
 
-pub returns-then-n-ne0 : goal.returns-then-n-ne0
-returns-then-n-ne0 c =
+pub returns-in-Err-clause-meets : goal.returns-in-Err-clause-meets
+returns-in-Err-clause-meets c =
     let a = c.args in
-    let t = ap (λ (x : State). tables a.sets.now a.entries.now a.smallest.now a.unions.now x.used) c.refused.ensures.1 in
-    refused_meets _ _ _ _ (omega (arith, c.ranges.weight)) _ _ _ _ c.insert_number-n.ensures c.if-n-ne0.true c.refused.ensures.0 c.refused.ensures.1 t refl
+    let e = c.in-Err.ensures ∙ ap (λ (T : Tables). insert_number a.state T a.journal.now (as_link a.link)) (c.view.ensures a.state.used) in
+    let t = ap (λ (x : State). tables_of a.tables.now x.used) c.refused.ensures.1 in
+    refused_meets _ _ _ _ (omega arith) _ _ _ _ e (faulted _) c.refused.ensures.0 c.refused.ensures.1 t refl
 
 pub take_link-used-requires : goal.take_link-used-requires
 take_link-used-requires c =
-    let z = sym c.insert_number-n.ensures ∙ c.if-n-ne0.false in
+    let a = c.args in
+    let z = sym (c.in_default.ensures ∙ ap (λ (T : Tables). insert_number a.state T a.journal.now (as_link a.link)) (c.view.ensures a.state.used)) in
     let q = insert_parts _ _ _ _ z in
     (insert_two _ _ _ _ z, q.0, q.1, insert_room _ _ _ _ z)
 
 pub add-links-requires : goal.add-links-requires
-add-links-requires c = let z = sym c.insert_number-n.ensures ∙ c.if-n-ne0.false in insert_parts _ _ _ _ z
+add-links-requires c = insert_parts _ _ _ _ (sym c.in_default.ensures)
 
-pub returns : goal.returns
-returns c =
-    taken_meets _ _ _ _ (omega (arith, c.ranges.weight)) (sym c.insert_number-n.ensures ∙ c.if-n-ne0.false) _ _ _ _ _
-    c.take_link-used.ensures.result_after c.take_link-used.ensures.rows_after.0 c.add-links.ensures.1 c.add-links.ensures.0 refl refl
+pub returns-clause-meets : goal.returns-clause-meets
+returns-clause-meets c =
+    let a = c.args in
+    let z = sym (c.in_default.ensures ∙ ap (λ (T : Tables). insert_number a.state T a.journal.now (as_link a.link)) (c.view.ensures a.state.used)) in
+    taken_meets _ _ _ _ (omega arith) z _ _ _ _ _ _
+    c.take_link-used.ensures.tables_after c.take_link-used.ensures.rows_after.0 c.add-links.ensures.1 c.add-links.ensures.0 c.from-weight.ensures refl refl

@@ -1,29 +1,15 @@
-use Rattle.sequential.proofs.Starting.{start_4, start_10, start_11, start_20, start_passes, not_meets, begun_meets}
-use mathlib.Core.Path.{refl, sym, ◌∙◌}
+use mathlib.Core.Path.{refl, sym, ap, ◌∙◌}
+use Rattle.slots.specs.Tables.{Tables}
+use Rattle.sequential.specs.Steps.{check_start}
+use Rattle.sequential.proofs.Starting.{not_meets, begun_meets}
 use Rattle.sequential.proofs.start.Goals as goal
 
-pub returns-then-not-good_count : goal.returns-then-not-good_count
-returns-then-not-good_count c =
-    not_meets _ _ _ _ _ _ _ _ (start_4 _ _ _ _ (sym c.good_count.ensures ∙ c.if-not-good_count.true)) c.not_started.ensures.0 c.not_started.ensures.1 refl refl
+pub returns-in-Err-clause-meets : goal.returns-in-Err-clause-meets
+returns-in-Err-clause-meets c =
+    let e = sym (c.in-Err.ensures ∙ ap (λ (T : Tables). check_start c.args.p c.args.k T c.args.journal.now) (c.view.ensures 0)) in
+    not_meets _ _ _ _ _ _ _ _ _ e c.not_started.ensures.0 c.not_started.ensures.1 refl refl
 
-pub returns-then-not-good_k : goal.returns-then-not-good_k
-returns-then-not-good_k c =
-    not_meets _ _ _ _ _ _ _ _ (start_10 _ _ _ _ (sym c.good_count.ensures ∙ c.if-not-good_count.false) (sym c.good_k.ensures ∙ c.if-not-good_k.true))
-    c.not_started-then-not-good_k.ensures.0 c.not_started-then-not-good_k.ensures.1 refl refl
-
-pub returns-then-not-level : goal.returns-then-not-level
-returns-then-not-level c =
-    not_meets _ _ _ _ _ _ _ _ (start_11 _ _ _ _ (sym c.good_count.ensures ∙ c.if-not-good_count.false) (sym c.good_k.ensures ∙ c.if-not-good_k.false)
-    (sym c.level.ensures ∙ c.if-not-level.true)) c.not_started-then-not-level.ensures.0 c.not_started-then-not-level.ensures.1 refl refl
-
-pub returns-then-not-whole : goal.returns-then-not-whole
-returns-then-not-whole c =
-    not_meets _ _ _ _ _ _ _ _ (start_20 _ _ _ _ (sym c.good_count.ensures ∙ c.if-not-good_count.false) (sym c.good_k.ensures ∙ c.if-not-good_k.false)
-    (sym c.level.ensures ∙ c.if-not-level.false) (sym c.whole.ensures ∙ c.if-not-whole.true)) c.not_started-then-not-whole.ensures.0
-    c.not_started-then-not-whole.ensures.1 refl refl
-
-pub returns : goal.returns
-returns c =
-    begun_meets _ _ _ _ _ _ _ (start_passes _ _ _ _ (sym c.good_count.ensures ∙ c.if-not-good_count.false)
-    (sym c.good_k.ensures ∙ c.if-not-good_k.false) (sym c.level.ensures ∙ c.if-not-level.false) (sym c.whole.ensures ∙ c.if-not-whole.false)) refl _
-    c.no_rows-rows.ensures refl c.clear.ensures c.clear-2.ensures
+pub returns-clause-meets : goal.returns-clause-meets
+returns-clause-meets c =
+    let e = sym (c.in_default.ensures ∙ ap (λ (T : Tables). check_start c.args.p c.args.k T c.args.journal.now) (c.view.ensures 0)) in
+    begun_meets _ _ _ _ _ _ _ e refl _ c.no_rows.ensures refl c.clear.ensures.tables_after c.clear-2.ensures

@@ -1,4 +1,5 @@
-use mathlib.Core.Path.{sym}
+use mathlib.Core.Path.{sym, ◌∙◌}
+use borrow.Author.Tests.{le-ltb}
 use Rattle.sets.proofs.Held.{held}
 use Rattle.sets.proofs.Laws.{has_above}
 use Rattle.sets.proofs.OneWord.{mask_has}
@@ -12,4 +13,4 @@ returns-then-q-lt64 c = mask_has c.args.q c.args.s.word
 
 pub returns-else-q-lt64 : goal.returns-else-q-lt64
 unfolding num
-returns-else-q-lt64 c = sym (has_above width c.args.q (num c.args.s) (held c.args.s c.well_formed.0) c.if-q-lt64.false)
+returns-else-q-lt64 c = le-ltb _ _ c.if-q-lt64.false ∙ sym (has_above width c.args.q (num c.args.s) (held c.args.s c.well_formed.0) c.if-q-lt64.false)

@@ -1,8 +1,5 @@
-use borrow.Author.Rules.{rules}
-use Rattle.sets.specs.Sets.{before}
-use Rattle.sets.specs.Value.{num}
+use Rattle.sets.proofs.Order.{less_is}
 use Rattle.sets.proofs.less.Goals as goal
 
 pub returns : goal.returns
-unfolding before num
-returns c = search rules
+returns c = less_is _ _ _ c.lt.ensures

@@ -1,46 +1,35 @@
-use mathlib.Core.Path.{◌≡◌, sym, ap, ap₂, ◌∙◌}
-use Prim.Native.Nat.{ℕ, suc, ◌+◌, ◌-◌}
+use mathlib.Core.Path.{◌≡◌, ap, ap₂, ◌∙◌}
+use Prim.Native.Nat.{ℕ, suc}
 use native.Mathlib.Omega.{arith}
-use borrow.Author.Tests.{eqb-true}
+use Rattle.sets.specs.Rest.{left_of}
 use Rattle.sets.specs.Sets.{union, lows}
 use Rattle.sets.specs.Value.{width, num}
-use Rattle.sets.proofs.Held.{held}
+use Rattle.sets.proofs.Given.{left_lt, none_left, given_some, given_lowest, given_out}
 use Rattle.sets.proofs.Laws.{union_comm, union_empty}
-use Rattle.sets.proofs.LowParts.{lows_none, lows_empty, lows_turn}
+use Rattle.sets.proofs.LowParts.{lows_turn, lows_over}
 use Rattle.sets.proofs.lows.Goals as goal
 
-pub loop-n-init : goal.loop-n-init
-loop-n-init c =
-    let a = c.args in
-    let n = num a.s in
-    let e : a.k - 0 ≡ a.k = omega arith in
-    (omega arith, held a.s c.well_formed.0, ap₂ (λ (t k : ℕ). union t (lows k n)) c.empty-taken.ensures e ∙ union_comm 0 (lows a.k n) ∙ union_empty (lows a.k n))
+pub loop-q-init : goal.loop-q-init
+loop-q-init c =
+    let i = c.into_iter-q-iterator.ensures.into_iter_gives in
+    let t = c.take-q-items.ensures in
+    let k = ap (λ x. x.n) i ∙ t.count in
+    let r = ap (λ x. left_of x.iter) i ∙ ap left_of t.source ∙ c.parts.ensures.left in
+    ap₂ union c.empty-taken.ensures (ap₂ lows k r) ∙ union_comm 0 _ ∙ union_empty _
 
-pub returns-then-is_empty : goal.returns-then-is_empty
-returns-then-is_empty c =
-    let l = c.loop-n in
-    let k = c.args.k - l.n in
-    let t = num l.taken in
-    let z : num l.rest ≡ 0 = eqb-true (num l.rest) 0 (sym c.is_empty.ensures ∙ c.if-is_empty.true) in
-    sym (ap (λ (n : ℕ). union t (lows k n)) z ∙ ap (union t) (lows_empty k) ∙ union_empty t) ∙ l.invariant.2
-
-pub loop-n-preserved : goal.loop-n-preserved
-loop-n-preserved c =
-    let l = c.loop-n in
-    let a = c.args in
-    let e : suc (a.k - (l.n + 1)) ≡ a.k - l.n = omega arith in (
-      omega arith,
-      held c.without-rest.result c.without-rest.type_inv,
-      lows_turn width (a.k - (l.n + 1)) (num l.rest) (num l.taken) c.lowest-q.result (num c.with-taken.result) (num c.without-rest.result)
-          l.invariant.1 (sym c.is_empty.ensures ∙ c.if-is_empty.false) c.lowest-q.ensures
-          c.with-taken.ensures c.without-rest.ensures
-          ∙ ap (λ (x : ℕ). union (num l.taken) (lows x (num l.rest))) e ∙ l.invariant.2,
-    )
+pub loop-q-preserved : goal.loop-q-preserved
+loop-q-preserved c =
+    let l = c.loop-q in
+    let s = c.in-Some.ensures.steps in
+    let i = l.q-iterator.iter in
+    let j = c.next.new.self.iter in
+    let e : suc c.next.new.self.n ≡ l.q-iterator.n = omega (arith, s.1) in
+    lows_turn width c.next.new.self.n (left_of i) (num l.taken) c.in-Some.q (num c.with-taken.result) (left_of j) (left_lt i) (given_some i j _ s.0)
+    (given_lowest i j _ s.0) c.with-taken.ensures (given_out i j _ s.0)
+    ∙ ap (λ (k : ℕ). union (num l.taken) (lows k (left_of i))) e ∙ l.invariant
 
 pub returns : goal.returns
 returns c =
-    let l = c.loop-n in
-    let t = num l.taken in
-    let n = num l.rest in
-    let e : c.args.k - l.n ≡ 0 = omega arith in
-    sym (ap (λ (k : ℕ). union t (lows k n)) e ∙ ap (union t) (lows_none n) ∙ union_empty t) ∙ l.invariant.2
+    let i = c.loop-q.q-iterator in
+    let s = c.in-None.ensures.steps in
+    lows_over i.n (left_of i.iter) _ _ (λ h. none_left i.iter (s h).0) c.loop-q.invariant

@@ -1,12 +1,9 @@
 use mathlib.Core.Path.{◌≡◌}
-use Prim.Native.Nat.{◌≤◌, ◌<◌, ◌-◌, ◌^◌}
+use Rattle.sets.specs.Rest.{left_of}
 use Rattle.sets.specs.Sets.{union, lows}
-use Rattle.sets.specs.Value.{width, num}
+use Rattle.sets.specs.Value.{num}
 use Rattle.sets.proofs.lows.Given as goal
 
--- The invariant: the parts taken, with the k - n lowest of the rest, are the k lowest of s. Assumes nothing.
-abbrev pub invariant-loop-n : goal.invariant-loop-n
-invariant-loop-n l = (l.n ≤ l.k) × (num l.rest < 2 ^ width) × (union (num l.taken) (lows (l.k - l.n) (num l.rest)) ≡ lows l.k (num l.initial.rest))
-
-abbrev pub decreases-loop-n : goal.decreases-loop-n
-decreases-loop-n l = l.k - l.n
+-- The invariant: the parts taken, with the lowest of those that are left, are the k lowest of s. Assumes nothing.
+abbrev pub invariant-loop-q : goal.invariant-loop-q
+invariant-loop-q l = union (num l.taken) (lows l.q-iterator.n (left_of l.q-iterator.iter)) ≡ lows l.fn.k (num l.fn.s)

@@ -1,7 +1,5 @@
-use borrow.Author.Rules.{rules}
-use Rattle.sets.specs.Value.{num}
+use Rattle.sets.proofs.Order.{equal_is}
 use Rattle.sets.proofs.same.Goals as goal
 
 pub returns : goal.returns
-unfolding num
-returns c = search rules
+returns c = equal_is _ _ _ c.eq.ensures

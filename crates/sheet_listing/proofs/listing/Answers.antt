@@ -1,25 +1,29 @@
-use mathlib.Core.Path.{refl}
+use mathlib.Core.Path.{◌∙◌}
 use native.Mathlib.Omega.{arith}
-use Rattle.runs.proofs.Admitted.{told_fine, call_sheet}
+use Rattle.std.proofs.lemmas.Result.{err_from_is_err_and}
+use Rattle.sheet.proofs.Said.{said_holds}
+use Rattle.runs.proofs.Admitted.{viewed, call_sheet}
 use Rattle.runs.proofs.Calls.{call_stopped, call_ran}
+use Rattle.runs.proofs.Left.{cleared_lent}
 use Rattle.sheet_listing.proofs.listing.Goals as goal
 
+pub returns-in_err-counts-clause-meets : goal.returns-in_err-counts-clause-meets
+returns-in_err-counts-clause-meets c =
+    let p = err_from_is_err_and c.from_residual.result c.from_residual.ensures.1 in
+    rw (p.1, p.2) (call_stopped _ _ _ _ _ c.args.out.now _ _ (viewed _ _ _ _ _ (c.view.ensures 0) c.in_err-counts.ensures))
+
 pub heavy-n-requires : goal.heavy-n-requires
-heavy-n-requires c = let o = told_fine _ _ _ c.admit.ensures _ _ c.in-Fine.is in (call_sheet _ _ _ o.0, o.2)
+heavy-n-requires c =
+    let o = said_holds _ _ _ _ (viewed _ _ _ _ _ (c.view.ensures 0) c.in_ok-counts.ensures) in
+    (call_sheet _ _ _ o.0, o.2)
 
 pub run-answer-requires : goal.run-answer-requires
 run-answer-requires c =
-    let o = told_fine _ _ _ c.admit.ensures _ _ c.in-Fine.is in
+    let o = said_holds _ _ _ _ (viewed _ _ _ _ _ (c.view.ensures 0) c.in_ok-counts.ensures) in
     (o.0, o.1, omega (arith, c.heavy-n.ensures.1, o.2))
 
-pub returns-in-Faulty : goal.returns-in-Faulty
-returns-in-Faulty c = call_stopped _ _ _ _ _ c.args.out.now _ _ _ c.admit.ensures _ _ c.in-Faulty.is refl
-
-pub returns-in-Fine : goal.returns-in-Fine
-returns-in-Fine c =
-    let a = c.args in
-    let h = c.heavy-n in
-    let r = c.run-answer in
-    let k = r.auto in
-    call_ran _ _ _ _ _ a.out.now _ _ _ c.admit.ensures _ _ c.in-Fine.is _ _ _ (r.ensures a.t h.ensures.0)
-    c.clear.ensures k.sets k.entries k.smallest k.unions
+pub returns-clause-meets : goal.returns-clause-meets
+returns-clause-meets c =
+    let r = c.run-answer.ensures in
+    call_ran _ _ _ _ _ c.args.out.now _ _ _ (viewed _ _ _ _ _ (c.view.ensures 0) c.in_ok-counts.ensures) _ _ _ (r.runs c.args.t c.heavy-n.ensures.0)
+    (c.clear.ensures.tables_after ∙ cleared_lent _ _ r.lent 0 0)

@@ -8,17 +8,17 @@ use Rattle.slots.proofs.find.Goals as goal
 
 pub loop-slot-init : goal.loop-slot-init
 unfolding find
-loop-slot-init c = (omega arith, rw sub-zero)
+loop-slot-init c = rw sub-zero
 
 pub returns-then-same : goal.returns-then-same
 returns-then-same c =
     let l = c.loop-slot in
-    sym (l.invariant.1 ∙ find_hit _ _ _ l.slot (omega arith) (sym c.at.ensures ∙ eqb-true _ _ (sym c.same.ensures ∙ c.if-same.true)))
+    sym (l.invariant ∙ find_hit _ _ _ l.slot (omega arith) (sym c.at.ensures ∙ eqb-true _ _ (sym c.same.ensures ∙ c.if-same.true)))
 
 pub loop-slot-preserved : goal.loop-slot-preserved
 loop-slot-preserved c =
     let l = c.loop-slot in
-    (omega arith, l.invariant.1 ∙ find_miss _ _ _ _ l.slot (omega arith) (λ e. eqb-false _ _ (sym c.same.ensures ∙ c.if-same.false) (c.at.ensures ∙ e)))
+    l.invariant ∙ find_miss _ _ _ _ l.slot (omega arith) (λ e. eqb-false _ _ (sym c.same.ensures ∙ c.if-same.false) (c.at.ensures ∙ e))
 
 pub returns : goal.returns
-returns c = sym (c.loop-slot.invariant.1 ∙ find_end _ _ _ _ (omega arith))
+returns c = sym (c.loop-slot.invariant ∙ find_end _ _ _ _ (omega arith) ∙ omega arith)

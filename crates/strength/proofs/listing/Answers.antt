@@ -1,15 +1,28 @@
-use mathlib.Core.Path.{refl}
-use Rattle.strong_checks.proofs.Calls.{ran_passed, strength_stopped, strength_ran}
+use mathlib.Core.Path.{ap₂, ◌∙◌}
+use Rattle.std.proofs.lemmas.Result.{err_from_is_err_and}
+use Rattle.sheet.proofs.Said.{said_holds}
+use Rattle.runs.proofs.Left.{cleared_lent}
+use Rattle.strong_checks.specs.OnSheet.{clique_list}
+use Rattle.strong_checks.proofs.Calls.{cleared_same, strength_viewed, strength_stopped, strength_ran}
 use Rattle.strength.proofs.listing.Goals as goal
 
 pub run-answer-requires : goal.run-answer-requires
-run-answer-requires c = ran_passed _ _ _ _ _ _ _ c.level-ok.ensures c.admit.ensures _ _ c.in-Fine.is
+run-answer-requires c =
+    let v = c.view.ensures in
+    said_holds _ _ _ _ (strength_viewed _ _ _ _ _ _ _ _ _ c.level-level.ensures (ap₂ clique_list v.0 v.1) (c.view-2.ensures 0) c.in_ok-counts.ensures)
 
-pub returns-in-Faulty : goal.returns-in-Faulty
-returns-in-Faulty c = strength_stopped _ _ _ _ _ c.args.out.now _ _ _ c.level-ok.ensures c.admit.ensures _ _ c.in-Faulty.is refl
+pub returns-in_err-counts-clause-meets : goal.returns-in_err-counts-clause-meets
+returns-in_err-counts-clause-meets c =
+    let p = err_from_is_err_and c.from_residual.result c.from_residual.ensures.1 in
+    let v = c.view.ensures in
+    rw (p.1, p.2) (strength_stopped _ _ _ _ _ c.args.out.now _
+    (strength_viewed _ _ _ _ _ _ _ _ _ c.level-level.ensures (ap₂ clique_list v.0 v.1) (c.view-2.ensures 0) c.in_err-counts.ensures))
 
-pub returns-in-Fine : goal.returns-in-Fine
-returns-in-Fine c =
-    let k = c.run-answer.auto in
-    strength_ran _ _ _ _ _ c.args.out.now _ _ _ c.level-ok.ensures c.admit.ensures _ _ c.in-Fine.is _ _ _ _ _ c.run-answer.ensures c.clear_list.ensures
-    k.cliques k.products c.clear.ensures k.sets k.entries k.smallest k.unions
+pub returns-clause-meets : goal.returns-clause-meets
+returns-clause-meets c =
+    let r = c.run-answer.ensures in
+    let v = c.view.ensures in
+    strength_ran _ _ _ _ _ c.args.out.now _ _
+    (strength_viewed _ _ _ _ _ _ _ _ _ c.level-level.ensures (ap₂ clique_list v.0 v.1) (c.view-2.ensures 0) c.in_ok-counts.ensures) _ _ _ _ r.runs
+    (c.clear_list.ensures.list_after ∙ cleared_same _ _ r.list)
+    (c.clear.ensures.tables_after ∙ cleared_lent _ _ r.lent 0 0)

@@ -1,20 +1,41 @@
-use mathlib.Core.Path.{ap, ◌∙◌}
-use Rattle.answers.specs.Model.{verdict}
-use Rattle.sheet.proofs.Said.{say_faulty, say_holds}
-use Rattle.runs.proofs.Admitted.{told_faulty, told_fine}
-use Rattle.strong_checks.proofs.Calls.{strength_faulty, strength_after}
+use mathlib.Core.Bool.{Bool}
+use Rattle.std.proofs.Common.{rules}
+use mathlib.Core.Path.{◌≡◌, sym, ap, ◌∙◌}
+use Rattle.std.proofs.lemmas.Result.{err_from_is_err_and}
+use Rattle.answers.specs.Verdict.{accepted, unless}
+use Rattle.sheet.proofs.Said.{say_faulty, say_holds, said_faulty, said_holds}
+use Rattle.strong_checks.specs.OnSheet.{check_measure}
+use Rattle.strong_checks.proofs.Calls.{strength_faulty, strength_ten, strength_measure, strength_past}
 use Rattle.strong_checks.proofs.admit.Goals as goal
 
-pub returns-in-Stop : goal.returns-in-Stop
-returns-in-Stop c =
-    say_faulty _ _ _ _ (strength_after _ _ _ _ _ c.check_numbers.ensures
-    (told_fine _ _ _ c.check.ensures _ _ c.in-Fine.is).0 ∙ ap verdict c.in-Stop.is)
+pub returns-in_err-counts : goal.returns-in_err-counts
+returns-in_err-counts c =
+    let p = err_from_is_err_and c.from_residual.result c.from_residual.ensures.1 in
+    rw (p.1, p.2) (say_faulty _ _ _ _ (strength_faulty _ _ _ _ _ _ (said_faulty _ _ _ _ c.in_err-counts.ensures)))
 
-pub returns-in-Faulty : goal.returns-in-Faulty
-returns-in-Faulty c = say_faulty _ _ _ _ (strength_faulty _ _ _ _ _ _ (told_faulty _ _ _ c.check.ensures _ _ c.in-Faulty.is))
+pub returns-in_err-require : goal.returns-in_err-require
+returns-in_err-require c =
+    let f = said_holds _ _ _ _ c.in_ok-counts.ensures in
+    let p = err_from_is_err_and c.from_residual-in_err-require.result c.from_residual-in_err-require.ensures.1 in
+    rw (p.1, p.2) (say_faulty _ _ _ _ (strength_ten _ _ _ _ f.0 _ _ (sym (c.in_err-require.ensures ∙ ap (λ (b : Bool). unless b 10 0) c.good_k.ensures))))
 
-pub returns-in_default : goal.returns-in_default
-returns-in_default c =
-    let f = told_fine _ _ _ c.check.ensures _ _ c.in-Fine.is in
-    say_holds _ _ _ _ (strength_after _ _ _ _ _ c.check_numbers.ensures
-    f.0 ∙ ap verdict c.in_default.is) f.1 f.2
+pub returns-in_err-check_measure : goal.returns-in_err-check_measure
+returns-in_err-check_measure c =
+    let f = said_holds _ _ _ _ c.in_ok-counts.ensures in
+    let p = err_from_is_err_and c.from_residual-in_err-check_measure.result c.from_residual-in_err-check_measure.ensures.1 in
+    let ten = sym (c.in_ok-require.ensures ∙ ap (λ (b : Bool). unless b 10 0) c.good_k.ensures) in
+    rw (p.1, p.2) (say_faulty _ _ _ _ (strength_measure _ _ _ _ f.0 ten _ _ (sym c.in_err-check_measure.ensures)))
+
+pub returns-in_err-require-2 : goal.returns-in_err-require-2
+returns-in_err-require-2 c =
+    let f = said_holds _ _ _ _ c.in_ok-counts.ensures in
+    let p = err_from_is_err_and c.from_residual-in_err-require-2.result c.from_residual-in_err-require-2.ensures.1 in
+    let ten = sym (c.in_ok-require.ensures ∙ ap (λ (b : Bool). unless b 10 0) c.good_k.ensures) in
+    let passed : check_measure c.args.k c.args.measure ≡ accepted = search rules in
+    rw (p.1, p.2) (say_faulty _ _ _ _ (strength_past _ _ _ _ f.0 ten passed _ (sym c.in_err-require-2.ensures)))
+
+pub returns : goal.returns
+returns c =
+    let f = said_holds _ _ _ _ c.in_ok-counts.ensures in
+    let ten = sym (c.in_ok-require.ensures ∙ ap (λ (b : Bool). unless b 10 0) c.good_k.ensures) in
+    say_holds _ _ _ _ (strength_past _ _ _ _ f.0 ten (sym c.in_ok-check_measure.ensures) _ (sym c.in_ok-require-2.ensures)) f.1 f.2

@@ -1,30 +1,59 @@
-use Rattle.text.proofs.Pass2.{sizes_then, links_none, links_stop, links_more, links_refused, links_fine}
-use Rattle.words.proofs.Pieces.{line_end_fits}
-use Rattle.link_order.specs.Order.{link_lists}
+use Rattle.text.specs.Walk.{rest}
+use Rattle.text.proofs.Pass2.{links_none, links_stop, links_more, links_refused, links_fine}
+use Rattle.std.proofs.lemmas.Result.{err_from_is_err_and}
+use Rattle.link_order.specs.Lent.{link_lists_of, SameLinks}
+use Rattle.link_order.specs.declared.Links.{Links}
 use lib.ListN.{length}
-use lib.Dec.{eqb}
-use native.Mathlib.Omega.{arith}
 use mathlib.Core.Path.{refl, ap, ◌∙◌}
 use Rattle.text.proofs.read_links.Goals as goal
 
-pub loop-at-init : goal.loop-at-init
-loop-at-init c = (ap length c.no_rows-seen.ensures, record { lower = refl; higher = refl; weights = refl }, λ N h l. links_none _ N _ _ c.no_rows-seen.ensures)
+-- the same lists after two calls
+same_links : (a b c : Links) → SameLinks a b → SameLinks b c → SameLinks a c
+same_links a b c i k = record {
+  lower = i.lower ∙ k.lower;
+  higher = i.higher ∙ k.higher;
+  weights = i.weights ∙ k.weights;
+  lower_long = i.lower_long ∙ k.lower_long;
+  higher_long = i.higher_long ∙ k.higher_long;
+  weights_long = i.weights_long ∙ k.weights_long;
+}
 
-pub slice_bounds-link_line-end : goal.slice_bounds-link_line-end
-slice_bounds-link_line-end c = omega (arith, c.line_end-end.ensures, line_end_fits (eqb 10) c.args.text.now c.loop-at.at (omega arith))
+pub loop-place-init : goal.loop-place-init
+loop-place-init c = record {
+  rows = ap length c.no_rows-seen.ensures;
+  same = record { lower = refl; higher = refl; weights = refl; lower_long = refl; higher_long = refl; weights_long = refl };
+  links = λ N h l. links_none _ N _ _ _ c.no_rows-seen.ensures (ap rest c.into_iter-place-iterator.ensures.into_iter_gives ∙ c.new-place-items.ensures);
+}
 
-pub returns-in-Fault : goal.returns-in-Fault
-returns-in-Fault c = λ N h l. let s = c.loop-at in
-    let f = s.invariant.2 N h l in
-    links_refused _ N _ _ _ _ (links_stop c.args.text.now N _ (link_lists s.lower s.higher s.weights) _ s.seen _ s.m s.at c.line_end-end.result c.link_line.result f s.invariant.1 c.loop-at-test.true c.line_end-end.ensures (c.link_line.ensures N f.L h l f.near f.count) _ _ c.in-Fault.is)
+pub returns-in_err-m-clause-lent : goal.returns-in_err-m-clause-lent
+returns-in_err-m-clause-lent c =
+    let i = c.loop-place.invariant.same in
+    let k = c.link_line.ensures.lent in
+    same_links _ _ _ i k
 
-pub loop-at-preserved : goal.loop-at-preserved
-loop-at-preserved c = let s = c.loop-at in
-    let k = c.link_line.auto in (
-      k.seen ∙ s.invariant.0,
-      sizes_then _ _ _ (record { lower = k.lower; higher = k.higher; weights = k.weights }) s.invariant.1,
-      λ N h l. let f = s.invariant.2 N h l in links_more c.args.text.now N _ (link_lists s.lower s.higher s.weights) _ s.seen _ s.m s.at c.line_end-end.result c.link_line.result f s.invariant.1 c.loop-at-test.true c.line_end-end.ensures (c.link_line.ensures N f.L h l f.near f.count) _ c.in-Count.is,
-    )
+pub returns-in_err-m-clause-links : goal.returns-in_err-m-clause-links
+returns-in_err-m-clause-links c = λ N h l.
+    let s = c.loop-place in
+    let f = s.invariant.links N h l in
+    let p = err_from_is_err_and c.from_residual.result c.from_residual.ensures.1 in
+    rw (p.1, p.2)
+    (links_refused _ N _ _ _
+    (links_stop c.args.text.now N _ (link_lists_of s.links) _ s.seen _ s.m _ _ _ _ _ f c.in-Some.ensures.steps
+    (c.in_err-m.ensures.line N f.L h l f.near f.count) _ refl))
 
-pub returns : goal.returns
-returns c = λ N h l. links_fine _ N _ _ _ _ _ (c.loop-at.invariant.2 N h l) c.loop-at-test.false
+pub loop-place-preserved : goal.loop-place-preserved
+loop-place-preserved c =
+    let s = c.loop-place in
+    let i = s.invariant.same in
+    let k = c.link_line.ensures.lent in
+    record {
+      rows = c.link_line.auto.seen ∙ s.invariant.rows;
+      same = same_links _ _ _ i k;
+      links = λ N h l.
+          let f = s.invariant.links N h l in
+          links_more c.args.text.now N _ (link_lists_of s.links) _ s.seen _ s.m _ _ _ _ _ f c.in-Some.ensures.steps
+          (c.in_ok-m.ensures.line N f.L h l f.near f.count) _ refl;
+    }
+
+pub returns-clause-links : goal.returns-clause-links
+returns-clause-links c = λ N h l. links_fine _ N _ _ _ _ _ (c.loop-place.invariant.links N h l) c.in-None.ensures.steps.0

@@ -1,32 +1,19 @@
-use Rattle.tree_levels.proofs.LevelSteps.{slots_none, tally_yes, tally_no}
-use Rattle.tree_levels.specs.LevelModel.{start_slots}
-use lib.ListN.{length}
-use Prim.Native.Nat.{ℕ, ◌+◌}
-use mathlib.Core.Path.{◌≡◌, sym, ap, ◌∙◌}
-use native.Mathlib.Omega.{arith}
+use Rattle.std.proofs.Common.{◌≡◌, ◌&&◌, eqb, length, ℕ, arith, rules, tests, ◌∙◌}
+use Rattle.std.proofs.lemmas.Iterator.{YieldsList-from_range}
+use Rattle.std.proofs.lemmas.Iterator.Consumers.{count_from_yields_List, YieldsList-from_filter}
+use Rattle.slots.specs.Tables.{root_of}
+use Rattle.tree_levels.specs.LevelModel.{starts_at, start_slots}
+use Rattle.tree_levels.proofs.LevelSteps.{starts_filtered, starts_few}
 use Rattle.tree_levels.proofs.count_lines.Goals as goal
-use Rattle.tree_levels.proofs.count_lines.Goals.{then-starts, else-starts}
-
-pub loop-i-init : goal.loop-i-init
-loop-i-init c = (omega arith, omega arith, sym (ap length (slots_none _ _ _)))
-
-pub loop-i-preserved : goal.loop-i-preserved
-loop-i-preserved c =
-    let l = c.loop-i in
-    let a = c.args in
-    let t = sym c.starts.ensures in
-    elim c.if-starts.branch [
-      | then-starts w ↦ (
-        omega arith,
-        omega arith,
-        w.n-is ∙ ap (λ (j : ℕ). j + 1) l.invariant.2
-            ∙ sym (tally_yes a.entries.now a.unions.now a.before l.i (t ∙ w.if-starts.true)),
-      )
-      | else-starts w ↦ (omega arith, omega arith, w.n-is ∙ l.invariant.2 ∙ sym (tally_no a.entries.now a.unions.now a.before l.i (t ∙ w.if-starts.false)))
-    ]
 
 pub returns : goal.returns
 returns c =
-    let l = c.loop-i in
-    let a = c.args in
-    (l.invariant.2 ∙ ap (λ (j : ℕ). length (start_slots a.entries.now a.unions.now a.before j)) (let e : l.i ≡ a.used = omega arith in e), omega arith)
+    let v = c.args.level in
+    let es = c.args.tables.now.entries.now in
+    let us = c.args.tables.now.unions.now in
+    let p = λ (i : ℕ). eqb (root_of es i) i && starts_at us v.before i in
+    let all = YieldsList-from_range 0 v.used v.used c.filter.ensures.source (omega arith) in
+    let e : c.count.result ≡ length (start_slots es us v.before v.used) =
+    count_from_yields_List c.filter.result _ c.count.ensures.ran (YieldsList-from_filter _ p all c.filter.ensures.closure (λ x b q k. search (rules, tests)))
+    ∙ starts_filtered es us v.before v.used in
+    (e, omega (arith, e, starts_few es us v.before v.used))

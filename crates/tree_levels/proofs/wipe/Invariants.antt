@@ -1,12 +1,11 @@
+use Rattle.std.proofs.Common.{◌≡◌}
+use Rattle.slots.specs.Lent.{tables_of}
+use Rattle.tree_levels.specs.Kept.{KeepsSlots, with_unions}
 use Rattle.tree_levels.specs.LevelModel.{wiped}
-use lib.ListN.{length}
-use Prim.Native.Nat.{◌≤◌, ◌-◌}
-use mathlib.Core.Path.{◌≡◌}
 use Rattle.tree_levels.proofs.wipe.Given as goal
 
 -- The invariant: the rows of slots below i that are no ends are empty. Assumes nothing.
 abbrev pub invariant-loop-i : goal.invariant-loop-i
-invariant-loop-i l = (l.i ≤ l.used) × (length l.unions ≡ length l.initial.unions) × (l.unions ≡ wiped l.entries l.initial.unions l.i)
-
-abbrev pub decreases-loop-i : goal.decreases-loop-i
-decreases-loop-i l = l.used - l.i
+invariant-loop-i l =
+    let T = l.initial.tables in
+    KeepsSlots T l.tables × (tables_of l.tables 0 ≡ with_unions (tables_of T 0) (wiped T.entries.now T.unions.now l.i))

@@ -7,7 +7,7 @@ use Rattle.tree_lines.proofs.put_fields.Goals as goal
 pub returns : goal.returns
 returns c =
     let a = c.args in
-    fields_written a.out.now _ _ _ _ _ a.start _ _ _ _ a.weight a.joins a.into (num a.small) (num a.whole)
+    fields_written a.out.now _ _ _ _ _ a.start _ _ _ _ a.line.weight a.line.joins a.line.into (num a.line.small) (num a.line.whole)
     refl refl refl (ap (λ (n : ℕ). a.start + n) c.whole_place.ensures)
     c.put_two.ensures
     c.put_four.ensures

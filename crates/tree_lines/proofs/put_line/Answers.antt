@@ -1,6 +1,5 @@
 use Rattle.tree_lines.proofs.LinePlaces.{line_room, line_no_room, put_whole}
-use Rattle.percolation.specs.Tree.{line}
-use Rattle.sets.specs.Value.{num}
+use Rattle.tree_lines.specs.LineModel.{line_in}
 use lib.ListN.{length}
 use Prim.Native.Nat.{ℕ, ◌*◌}
 use mathlib.Core.Path.{ap}
@@ -19,5 +18,5 @@ gap-start-requires c =
 pub returns : goal.returns
 returns c =
     let a = c.args in
-    put_whole a.out.now _ _ a.from a.to _ c.gap-start.result (line a.weight a.joins a.into (num a.small) (num a.whole))
+    put_whole a.out.now _ _ a.from a.to _ c.gap-start.result (line_in a.line)
     c.line_length-size.ensures c.gap-start.ensures c.put_fields.ensures

@@ -1,95 +1,75 @@
-use Rattle.sets.proofs.Tables.{length_none}
 use Rattle.tree_passes.proofs.SheetPasses.{passes_two, passes_few, next_level, counting_first, counting_last}
-use Rattle.tree_passes.proofs.TreePasses.{counting_step}
+use Rattle.tree_passes.proofs.TreePasses.{Counting, counting_step}
 use Rattle.runs.proofs.Admitted.{call_sheet}
+use Rattle.sheet.specs.Sheet.{parts, links_of}
 use Rattle.slots.proofs.Lengths.{room_within}
-use Rattle.slots.specs.Tables.{tables}
+use Rattle.slots.specs.Lent.{tables_of}
+use Rattle.slots.specs.Tables.{Tables, tables, room}
+use Rattle.std.proofs.Common.{rules}
 use lib.ListN.{length}
-use Prim.Native.Nat.{ℕ, ◌+◌}
-use mathlib.Core.Path.{refl, sym, ap, ◌∙◌}
+use Prim.Native.Nat.{ℕ, ◌+◌, ◌≤◌}
+use mathlib.Core.List.{List}
+use mathlib.Core.Path.{refl, sym, ap, ◌∙◌, subst}
 use native.Mathlib.Omega.{arith}
 use Rattle.tree_passes.proofs.count_tree.Goals as goal
 
-pub loop-j-init : goal.loop-j-init
-loop-j-init c =
+pub loop-start-init : goal.loop-start-init
+loop-start-init c =
     let a = c.args in (
       omega arith,
       omega arith,
       omega arith,
       ap length c.no_rows-rows.ensures,
-      refl,
-      refl,
-      refl,
-      refl,
-      counting_first a.sheet.now a.k _ c.requires.0 c.requires.2 _ _ c.no_rows-rows.ensures c.clear.ensures,
+      search rules,
+      counting_first a.sheet.now a.k _ c.requires.0 c.requires.2 _ _ c.no_rows-rows.ensures c.clear.ensures.tables_after,
     )
 
 pub level_end-to-requires : goal.level_end-to-requires
-level_end-to-requires c =
-    (call_sheet _ _ _ c.requires.0, c.requires.1, c.loop-j-test.true)
+level_end-to-requires c = (call_sheet _ _ _ c.requires.0, c.requires.1, c.loop-start-test.true)
 
-pub slice_bounds-take_links-end : goal.slice_bounds-take_links-end
-slice_bounds-take_links-end c = sym (c.loop-j.invariant.3 ∙ length_none)
-
-pub take_links-next-requires : goal.take_links-next-requires
-take_links-next-requires c =
-    let l = c.loop-j in
+pub take_links-used-requires : goal.take_links-used-requires
+take_links-used-requires c =
+    let l = c.loop-start in
     let e = c.level_end-to.ensures in
     (call_sheet _ _ _ c.requires.0, omega (arith, e.0), omega (arith, e.1, c.requires.1), passes_two _ _ _ c.requires.0 c.requires.2, l.invariant.2)
 
 pub overflow_add-n : goal.overflow_add-n
 overflow_add-n c =
-    let l = c.loop-j in
     let e = c.level_end-to.ensures in
     omega (
       arith,
-      l.invariant.1,
+      c.loop-start.invariant.1,
       c.count_level-n.ensures.value.1,
-      c.take_links-next.ensures.rows_after.1,
-      room_within c.take_links-next.new.entries,
+      c.take_links-used.ensures.rows_after.1,
+      room_within c.take_links-used.new.tables.entries.now,
       e.0,
       e.1,
       c.requires.1,
       passes_few _ _ _ c.requires.0 c.requires.2,
     )
 
-pub loop-j-smaller : goal.loop-j-smaller
-loop-j-smaller c = let e = c.level_end-to.ensures in omega (arith, e.0, e.1)
-
-pub loop-j-preserved : goal.loop-j-preserved
-loop-j-preserved c =
-    let a = c.args in
-    let l = c.loop-j in
+pub loop-start-preserved : goal.loop-start-preserved
+loop-start-preserved c =
+    let s = c.args.sheet.now in
+    let l = c.loop-start in
     let e = c.level_end-to.ensures in
-    let t = c.take_links-next in
-    let n = c.count_level-n in (
+    let t = c.take_links-used in
+    let n = c.count_level-n in
+    let p = room_within t.new.tables.entries.now in
+    let u = ap (λ (T : Tables). tables T.sets T.entries T.smallest T.unions t.result) n.ensures.tables_after in (
       e.1,
-      omega (arith, l.invariant.1, n.ensures.value.1, t.ensures.rows_after.1, room_within t.new.entries, e.0),
-      t.ensures.rows_after.1,
+      omega (arith, l.invariant.1, n.ensures.value.1, t.ensures.rows_after.1, p, e.0),
+      subst (λ (x : List ℕ). t.result ≤ room x) (sym n.ensures.kept.entries) t.ensures.rows_after.1,
       t.auto.rows ∙ l.invariant.3,
-      t.auto.sets ∙ l.invariant.4,
-      t.auto.entries ∙ l.invariant.5,
-      t.auto.smallest ∙ l.invariant.6,
-      n.auto.unions ∙ t.auto.unions ∙ l.invariant.7,
-      counting_step _ _ _ l.j _ _ (next_level a.sheet.now a.k _ c.requires.0 c.requires.2 l.j _ (omega (arith, e.0, e.1, c.requires.1)) e.2) l.rows _ l.n
-          l.invariant.8 (tables _ _ _ _ t.result) _ _ _ t.ensures.result_after t.ensures.rows_after.0 (ap (λ (x : ℕ). l.n + x) n.ensures.value.0)
-          n.ensures.unions_after,
+      search rules,
+      subst (λ (T : Tables). Counting (links_of s) (parts s) c.args.k c.level_end-to.result t.new.rows T (l.n + n.result)) (sym u)
+          (counting_step _ _ _ l.start _ _ (next_level s c.args.k _ c.requires.0 c.requires.2 l.start _ (omega (arith, e.0, e.1, c.requires.1)) e.2) l.rows _ l.n
+          l.invariant.5 (tables_of t.new.tables t.result) _ _ _ t.ensures.tables_after t.ensures.rows_after.0 (ap (λ (x : ℕ). l.n + x) n.ensures.value.0)
+          refl),
     )
 
-pub shape_of-sets : goal.shape_of-sets
-shape_of-sets c = c.loop-j.invariant.4 ∙ c.clear.auto.sets
-
-pub shape_of-entries : goal.shape_of-entries
-shape_of-entries c = c.loop-j.invariant.5 ∙ c.clear.auto.entries
-
-pub shape_of-smallest : goal.shape_of-smallest
-shape_of-smallest c = c.loop-j.invariant.6 ∙ c.clear.auto.smallest
-
-pub shape_of-unions : goal.shape_of-unions
-shape_of-unions c = c.loop-j.invariant.7 ∙ c.clear.auto.unions
-
-pub returns : goal.returns
-returns c =
+pub returns-clause-value : goal.returns-clause-value
+returns-clause-value c =
     let a = c.args in
-    let l = c.loop-j in
-    counting_last a.sheet.now a.k _ c.requires.0 c.requires.2 l.j l.rows _ l.n (omega (arith, c.loop-j-test.false, c.requires.1)) l.invariant.8
+    let l = c.loop-start in
+    counting_last a.sheet.now a.k _ c.requires.0 c.requires.2 l.start l.rows _ l.n (omega (arith, c.loop-start-test.false, c.requires.1)) l.invariant.5

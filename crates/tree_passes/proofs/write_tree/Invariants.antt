@@ -1,5 +1,6 @@
 use Rattle.tree_passes.proofs.TreeWritten.{Writing}
-use Rattle.slots.specs.Tables.{tables, room}
+use Rattle.slots.specs.Tables.{room}
+use Rattle.slots.specs.Lent.{tables_of, SameLent}
 use Rattle.sheet.specs.Sheet.{parts, links_of}
 use Rattle.sets.specs.Value.{no_rows}
 use lib.ListN.{length}
@@ -10,10 +11,9 @@ use Rattle.tree_passes.proofs.write_tree.Given as goal
 -- The invariant: the output holds the lines of the levels of the links below `from`. Assumes nothing.
 abbrev pub invariant-loop-from : goal.invariant-loop-from
 invariant-loop-from l =
-    (l.from ≤ l.m) × (l.used ≤ room l.entries) × (length l.rows ≡ length no_rows)
-    × (length l.sets ≡ length l.initial.sets) × (length l.entries ≡ length l.initial.entries) × (length l.smallest ≡ length l.initial.smallest)
-    × (length l.unions ≡ length l.initial.unions) × (length l.out ≡ length l.initial.out)
-    × Writing (links_of l.sheet) (parts l.sheet) l.k l.from l.rows (tables l.sets l.entries l.smallest l.unions l.used) l.initial.out l.n l.out
+    (l.from ≤ l.m) × (l.before ≤ room l.tables.entries.now) × (length l.rows ≡ length no_rows) × (length l.out ≡ length l.initial.out)
+    × SameLent l.initial.tables l.tables
+    × Writing (links_of l.sheet) (parts l.sheet) l.k l.from l.rows (tables_of l.tables l.before) l.initial.out l.n l.out
 
 abbrev pub decreases-loop-from : goal.decreases-loop-from
 decreases-loop-from l = l.m - l.from

@@ -1,4 +1,3 @@
-use Prim.Native.Nat.{◌≤◌}
 use lib.ListN.{drop}
 use Rattle.sheet.specs.Sheet.{links_of}
 use Rattle.weights.specs.Model.{Weighs}
@@ -6,7 +5,4 @@ use Rattle.weights.proofs.fill.Given as goal
 
 -- The invariant: the table has the weights of the links from j on. Assumes nothing.
 abbrev pub invariant-loop-j : goal.invariant-loop-j
-invariant-loop-j l = (l.j ≤ l.m) × Weighs (drop l.j (links_of l.sheet)) l.weights
-
-abbrev pub decreases-loop-j : goal.decreases-loop-j
-decreases-loop-j l = l.j
+invariant-loop-j l = Weighs (drop l.j (links_of l.sheet)) l.weights

@@ -1,9 +1,6 @@
-use Prim.Native.Nat.{◌≤◌, ◌-◌}
 use Rattle.words.specs.Lines.{WordAt}
 use Rattle.words.proofs.word_start.Given as goal
 
-abbrev pub invariant-loop-i : goal.invariant-loop-i
-invariant-loop-i l = (l.i ≤ l.n) × WordAt l.line l.i l.at
-
-abbrev pub decreases-loop-i : goal.decreases-loop-i
-decreases-loop-i l = l.n - l.i
+-- The invariant: the word of the number that is reached starts at `at`. Assumes nothing.
+abbrev pub invariant-loop : goal.invariant-loop
+invariant-loop l = WordAt l.line l.counter l.at

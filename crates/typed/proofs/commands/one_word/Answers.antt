@@ -10,15 +10,15 @@ returns-then-is_alone c = sym (ap word_asks (c.is_alone.ensures.0 c.if-is_alone.
 
 pub returns-then-is_alone-2 : goal.returns-then-is_alone-2
 unfolding word_asks
-returns-then-is_alone-2 c = sym (ap word_asks (c.is_alone-2.ensures.0 c.if-is_alone-2.true))
+returns-then-is_alone-2 c = sym (ap word_asks (c.is_alone-else-is_alone.ensures.0 c.if-is_alone-2.true))
 
 pub returns-then-is_alone-3 : goal.returns-then-is_alone-3
 unfolding word_asks
-returns-then-is_alone-3 c = sym (ap word_asks (c.is_alone-3.ensures.0 c.if-is_alone-3.true))
+returns-then-is_alone-3 c = sym (ap word_asks (c.is_alone-else-is_alone-2.ensures.0 c.if-is_alone-3.true))
 
-pub returns : goal.returns
-returns c =
+pub returns-else-is_alone-3 : goal.returns-else-is_alone-3
+returns-else-is_alone-3 c =
     sym (asks_unknown _
     (λ e. true≢false (sym (c.is_alone.ensures.1 e) ∙ c.if-is_alone.false))
-    (λ e. true≢false (sym (c.is_alone-2.ensures.1 e) ∙ c.if-is_alone-2.false))
-    (λ e. true≢false (sym (c.is_alone-3.ensures.1 e) ∙ c.if-is_alone-3.false)))
+    (λ e. true≢false (sym (c.is_alone-else-is_alone.ensures.1 e) ∙ c.if-is_alone-2.false))
+    (λ e. true≢false (sym (c.is_alone-else-is_alone-2.ensures.1 e) ∙ c.if-is_alone-3.false)))

@@ -1,9 +1,0 @@
-use mathlib.Core.Path.{sym}
-use Rattle.answers.proofs.Laws.{last_stop, last_go}
-use Rattle.answers.proofs.unless.Goals as goal
-
-pub returns-then-holds : goal.returns-then-holds
-returns-then-holds c = sym (last_go _ _ _ c.if-holds.true)
-
-pub returns : goal.returns
-returns c = sym (last_stop _ _ _ c.if-holds.false)

@@ -1,2 +1,0 @@
--- Laws that the proofs of several calls use.
-mod Meetings

@@ -1,7 +1,0 @@
-use Rattle.journal.specs.Model.{entry_link}
-use borrow.Author.Rules.{rules}
-use Rattle.journal.proofs.low_of.Goals as goal
-
-pub returns : goal.returns
-unfolding entry_link
-returns c = search rules

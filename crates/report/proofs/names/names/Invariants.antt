@@ -1,8 +1,0 @@
-use Rattle.sets.specs.Value.{num}
-use Rattle.report.proofs.names.names.Given as goal
-
-abbrev pub invariant-loop-rest : goal.invariant-loop-rest
-invariant-loop-rest l = Unit {0}
-
-abbrev pub decreases-loop-rest : goal.decreases-loop-rest
-decreases-loop-rest l = num l.rest
