@@ -5,11 +5,11 @@ use Rattle.sets.specs.Sets.{has, into}
 use Rattle.sets.specs.Value.{width, row, store}
 use Rattle.percolation.specs.Links.{Link, link}
 use Rattle.percolation.specs.Steps.{good_parts}
-use Rattle.checks.specs.declared.LinkRow.{LinkRow}
+use Rattle.checks.specs.declared.Link.{Link as Row}
 
--- a link as the code holds it
-abbrev pub link_row : LinkRow → Link
-link_row r = link r.low r.high r.weight
+-- a link as the code holds it, whatever the width of its part numbers
+abbrev pub as_link : Row ℕ → Link
+as_link r = link r.low r.high r.weight
 
 -- b among the neighbours of a, and each end of a link among those of the other
 unfoldable pub with_neighbour : List ℕ → ℕ → ℕ → List ℕ

@@ -4,22 +4,36 @@
 ghost use Rattle.std.specs.Prelude.{◌≡◌, true, List, ◌≤◌, eqb};
 ghost use Rattle.sets.specs.Lists.{any};
 ghost use Rattle.sets.specs.Value.{width, num};
-ghost use Rattle.percolation.specs.Links.{Link, link, inside, cliques};
+ghost use Rattle.percolation.specs.Links.{Link as PlainLink, inside, cliques};
 ghost use Rattle.percolation.specs.Ranges.{good_count, narrow_count, good_k};
 ghost use Rattle.percolation.specs.Steps.{good_parts, legal};
 ghost use Rattle.checks.specs.Neighbours.{Neighbours};
 ghost use Rattle.answers.specs.Model.{fault_number};
-ghost use Rattle.checks.specs.Model.{link_row, link_number, with_neighbour, marked};
+ghost use Rattle.checks.specs.Model.{as_link, link_number, with_neighbour, marked};
+
+pub mod pairs;
 
 use answers::Fault;
 use sets::Set;
 
-// A link: its lower part, its higher part and its weight.
+// A link: its lower part, its higher part and its weight. Part numbers are u16 in lent lists of links.
 #[derive(Clone, Copy, Debug, PartialEq, Eq)]
-pub struct LinkRow {
-    pub low: usize,
-    pub high: usize,
-    pub weight: usize,
+pub struct Link<P = usize> {
+    pub low: P,
+    pub high: P,
+    pub weight: u16,
+}
+
+impl From<Link<u16>> for Link {
+    ghost from_gives = { λ l r. as_link r ≡ as_link l };
+
+    fn from(link: Link<u16>) -> Link {
+        Link {
+            low: usize::from(link.low),
+            high: usize::from(link.high),
+            weight: link.weight,
+        }
+    }
 }
 
 // A part count is 1 to as many parts as a set can hold.
@@ -30,6 +44,7 @@ pub fn good_count(p: usize) -> bool
 }
 
 // The part count of version 1 of a sheet is 1 to 64.
+// Not `good_count`: 64 is the sheet's version 1, not what a set can hold.
 pub fn narrow_count(p: usize) -> bool
     ensures { result ≡ narrow_count p }
 {
@@ -44,23 +59,25 @@ pub fn good_k(k: usize) -> bool
 }
 
 // Part numbers below p, the lower first.
-fn good_parts(p: usize, low: usize, high: usize) -> bool
-    ensures { result ≡ good_parts p (link low high 0) }
+pub fn good_parts(p: usize, link: Link) -> bool
+    ensures { result ≡ good_parts p (as_link link) }
 {
-    low < p && (high < p && low < high)
+    link.low < p && (link.high < p && link.low < link.high)
 }
 
 // The first of 6 to 9 that applies to a link; `before` is the weight of the link before it, the largest weight where there is none.
-pub fn check_link(rows: &[u64], p: usize, link: LinkRow, before: usize) -> Result<(), Fault>
-    ensures { fault_number result ≡ link_number p rows.now before (link_row link) }
+// The weight before the first is 65,535 and no Option: so has it the state, which C holds. No `require` here: it is a bare fault, the place is the
+// caller's.
+pub fn check_link(rows: &[u64], p: usize, link: Link, before: usize) -> Result<(), Fault>
+    ensures { fault_number result ≡ link_number p rows.now before (as_link link) }
 {
-    if !good_parts(p, link.low, link.high) {
+    if !good_parts(p, link) {
         return Err(Fault::LinkParts);
     }
     if link.weight == 0 {
         return Err(Fault::NoWeight);
     }
-    if before < link.weight {
+    if before < usize::from(link.weight) {
         return Err(Fault::Rising);
     }
     if sets::has(sets::at(rows, link.low), link.high) {
@@ -78,16 +95,16 @@ fn mark(rows: &mut [u64], a: usize, b: usize)
 }
 
 // A link more: each end becomes a neighbour of the other.
-pub fn add_link(rows: &mut [u64], low: usize, high: usize)
-    ensures { rows.new ≡ marked rows.old low high }
+pub fn add_link(rows: &mut [u64], link: Link)
+    ensures { rows.new ≡ marked rows.old link.low link.high }
 {
-    mark(rows, low, high);
-    mark(rows, high, low);
+    mark(rows, link.low, link.high);
+    mark(rows, link.high, link.low);
 }
 
 // Whether s is a k-clique of parts below p, by the rows of neighbours.
 pub fn is_clique(rows: &[u64], p: usize, k: usize, s: Set) -> bool
-    ensures { (L : List Link) → Neighbours L rows.now → legal p L ≡ true → p ≤ width → result ≡ any (eqb (num s)) (cliques L p k) }
+    ensures { (L : List PlainLink) → Neighbours L rows.now → legal p L ≡ true → p ≤ width → result ≡ any (eqb (num s)) (cliques L p k) }
 {
     if sets::count(s) != k {
         return false;
@@ -100,8 +117,8 @@ pub fn is_clique(rows: &[u64], p: usize, k: usize, s: Set) -> bool
 }
 
 // Whether both ends of a link are parts of s.
-pub fn has_both(s: Set, low: usize, high: usize) -> bool
-    ensures { result ≡ inside (num s) (link low high 0) }
+pub fn has_both(s: Set, link: Link) -> bool
+    ensures { result ≡ inside (num s) (as_link link) }
 {
-    sets::has(s, low) && sets::has(s, high)
+    sets::has(s, link.low) && sets::has(s, link.high)
 }

@@ -6,13 +6,9 @@ use std::env::{Env, FillError};
 
 // How many there are, the program's own name among them.
 pub fn arg_count(rt: &impl Env) -> usize {
-    let mut none = [0u8; 0];
-    for i in 0..usize::MAX {
-        if let Err(FillError::NotPresent) = rt.arg(i, &mut none) {
-            return i;
-        }
-    }
-    usize::MAX
+    (0..usize::MAX)
+        .find(|i| matches!(rt.arg(*i, &mut []), Err(FillError::NotPresent)))
+        .unwrap_or(usize::MAX)
 }
 
 // Argument i at the start of buf: how many bytes it has. That there is none, or that it is longer than buf, is told by its name.

@@ -11,5 +11,5 @@ mod scan;
 pub use args::{arg, arg_count};
 pub use load::{last_file, read, read_on};
 pub use refusal::{FewSlots, refuse, tell, tell_long};
-pub use say::{Counted, STDIN, Stopped, end, fail, fail_of, field, text};
+pub use say::{Counted, Stopped, end, fail, fail_of};
 pub use scan::find;

@@ -14,6 +14,7 @@ use std::io::Read;
 const PATH_SPACE: usize = 4096;
 
 // Reads once into buf, from n on: how many bytes came. That it failed is told by the input's name; past the end of buf nothing is read.
+// A count beside the buffer, as `Read` gives it.
 pub fn read_on(
     rt: &impl Eprint,
     from: &mut impl Read,
@@ -40,6 +41,7 @@ pub fn read(
     ensures { Within 0 result buf.new }
 {
     let mut n = 0;
+    // A `while`: a read gives as many bytes as come, so that nothing counts the turns.
     while n < buf.len() {
         let more = read_on(rt, from, name, buf, n)?;
         if more == 0 {

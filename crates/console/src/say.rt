@@ -1,28 +1,10 @@
-// Words and numbers: for the trial programs, and complaints on standard error.
-
-ghost use Rattle.std.specs.Prelude.{◌≤◌, length};
+// Numbers of things, and complaints on standard error.
 
 use std::fmt;
 use std::io::{Error, ErrorKind, Write};
 
-// The numbers that the system gives to a program's three streams.
-pub const STDIN: i32 = 0;
-
-const STDOUT: i32 = 1;
-
+// The number that the system gives to standard error.
 const STDERR: i32 = 2;
-
-// ---- what the trial programs print, of which nothing is said where standard output takes no more
-
-pub fn text(t: &[u8]) {
-    io::write_all(STDOUT, t);
-}
-
-// A word, then a number.
-pub fn field(word: &[u8], n: usize) {
-    text(word);
-    io::print_decimal(STDOUT, n as u64);
-}
 
 // ---- numbers of things
 
@@ -40,14 +22,13 @@ impl fmt::Display for Counted<'_> {
 
 // ---- complaints
 
-// The length of an error's text, which is put at the start of buf.
-fn put_error(e: Error, buf: &mut [u8]) -> usize
-    ensures { result ≤ length buf.new }
-{
+// An error's text, in the space lent for it.
+fn error_text(e: Error, buf: &mut [u8]) -> &str {
     let room = buf.len();
-    let mut rest: &mut [u8] = buf;
+    let mut rest: &mut [u8] = &mut *buf;
     let _ = write!(rest, "{e}");
-    room.saturating_sub(rest.len())
+    let n = room.saturating_sub(rest.len());
+    str::from_utf8(&buf[..n]).unwrap_or("failed")
 }
 
 // Why, in the system's words, which an error's text has before the error's number.
@@ -57,8 +38,7 @@ struct Words(Error);
 impl fmt::Display for Words {
     fn fmt<W: fmt::Write>(&self, f: &mut fmt::Formatter<W>) -> fmt::Result {
         let mut buf = [0u8; 256];
-        let n = put_error(self.0, &mut buf);
-        let text = str::from_utf8(&buf[..n]).unwrap_or("failed");
+        let text = error_text(self.0, &mut buf);
         f.write_str(
             text.split_once(" (os error ")
                 .map_or(text, |(words, _)| words),

@@ -2,12 +2,16 @@
 use mathlib.Core.Path.{◌≡◌, refl, sym, ap, ap₂, ◌∙◌, subst}
 use mathlib.Core.Bool.{Bool, true, false}
 use mathlib.Core.List.{List, [], ◌∷◌, ◌++◌}
-use Prim.Native.Nat.{ℕ, min, ◌+◌, ◌^◌, ◌≤◌, ◌<◌}
+use Prim.Native.Nat.{ℕ, min, ◌+◌, ◌-◌, ◌^◌, ◌≤◌, ◌<◌}
+use native.Mathlib.Nat.{mul-le-mul}
+use lib.ListN.{get_or}
 use native.Mathlib.Omega.{arith}
 use native.Mathlib.Numerals.{add-one}
 use Rattle.answers.specs.Verdict.{accepted, refused, in_order}
 use Rattle.answers.proofs.Laws.{then_both, last_go, last_stop, order_stop}
-use Rattle.sets.specs.Sets.{full, sub}
+use Rattle.sets.specs.Sets.{full, size, sub}
+use Rattle.sets.proofs.Laws.{size_le}
+use Rattle.dump_theory.specs.Rows.{pairs_in}
 use Rattle.sets.specs.Value.{width}
 use Rattle.sheet.specs.Sheet.{list_of}
 use Rattle.sheet.proofs.Lists.{list_of_none, list_of_more, list_of_length}
@@ -57,3 +61,16 @@ module _ (d : List ℕ) where
   pub counted_last : (i : ℕ) (C : List ℕ) → i ≡ rows_in d → Counts (list_of (row_of d) i) C → Counts (tripped d) C
   unfolding tripped
   counted_last i C e c = subst (λ (R : List ℕ). Counts R C) (ap (list_of (row_of d)) e) c
+
+-- ---- how many pairs a row can have
+
+pub row_fits : (d : List ℕ) → ((j : ℕ) → get_or d j 0 < 256) → (i : ℕ) → row_of d i < 2 ^ 64
+row_fits d h i =
+    let a = row_at d i in
+    omega (arith, h a, h (a + 1), h (a + 2), h (a + 2 + 1), h (a + 4), h (a + 4 + 1), h (a + 4 + 2), h (a + 4 + 2 + 1))
+
+pub pairs_few : (s : ℕ) → s < 2 ^ 64 → pairs_in s ≤ 65535
+unfolding pairs_in
+pairs_few s h =
+    let k : size s ≤ 64 = size_le 64 s h in
+    let m : size s - 1 ≤ 63 = omega arith in omega (arith, mul-le-mul k m)

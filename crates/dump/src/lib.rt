@@ -29,6 +29,7 @@ use answers::{Answer, Fault, Refusal};
 pub fn pairs_in(row: u64) -> usize
     ensures { (result ≡ pairs_in row) × (result ≤ 2016) }
 {
+    // No From between u32 and usize: `as` widens, here and in `row`.
     let b = row.count_ones() as usize;
     b * b.saturating_sub(1) / 2
 }
@@ -69,7 +70,7 @@ fn row(d: &[u8], i: usize) -> u64
 pub fn row_of(d: &[u8], place: usize) -> usize
     ensures { (8 * result ≤ place) × ((i : ℕ) → place ≡ row_at d.now i → result ≡ i) }
 {
-    place.saturating_sub(row_at(d, 0)) / 8
+    records::number_at(place, row_at(d, 0), 8)
 }
 
 // ---- two sums, equal for a dump and its sheet by dump_sum
@@ -78,27 +79,23 @@ pub fn row_of(d: &[u8], place: usize) -> usize
 pub fn pair_sum(d: &[u8]) -> usize
     ensures { result ≡ sum (map pairs_in (tripped d.now)) }
 {
-    let mut pairs = 0;
-    for i in 0..row_count(d) {
-        pairs += pairs_in(row(d, i));
-    }
-    pairs
+    (0..row_count(d)).map(|i| pairs_in(row(d, i))).sum()
 }
 
 // The weights of a sheet's links, added up.
 pub fn weight_sum(s: &[u8]) -> usize
     ensures { result ≡ weight_sum (links_of s.now) }
 {
-    let mut weight = 0;
-    for j in 0..sheet::link_count(s) {
-        weight += sheet::link(s, j).weight;
-    }
-    weight
+    (0..sheet::link_count(s))
+        .map(|j| usize::from(sheet::link(s, j).weight))
+        .sum()
 }
 
 // ---- what a dump is refused for
 
 // 17 at 0, at 3 and at the length, then 4.
+// The sheet's `head` and `names` with other marks and places: one for both would take all of these as parameters, and its clause could cite neither
+// definition.
 #[tactic(auto, using(sheet::proofs::Said::in_turn), unfolding(crate::specs::Dump::check_front))]
 fn front(d: &[u8]) -> Result<(), Refusal>
     ensures { verdict result ≡ check_front d.now }

@@ -2,27 +2,57 @@
 use crate::numeral::decimal;
 use crate::usage::wrong;
 use console::{Stopped, arg_count};
+use report::Asked;
 use std::env::Env;
 
-// A command with k and the threshold as it takes them; Fullest has the part count before k, Meet the place of `--` among the arguments, Mean names from
-// argument 4 on.
+// A command with what it takes.
+// Enums by what a command needs, and no closures: a function that makes one and hands it out is refused.
 #[derive(Clone, Copy, Debug, PartialEq, Eq)]
 pub enum Order {
     Help,
     Pack,
     FromDump,
+    // A part count and k.
+    Fullest(usize, usize),
+    // K.
+    Live(usize),
+    OnSheet(SheetOrder),
+}
+
+// A command on the sheet that the last argument names.
+#[derive(Clone, Copy, Debug, PartialEq, Eq)]
+pub enum SheetOrder {
     Show,
-    Listing(usize, u16),
-    ByMean(usize, u16),
-    Mean(usize, u16),
-    Weakest(usize, u16),
+    // Names from argument 4 on.
+    Mean(Asked),
+    Weakest(Asked),
+    // K and the lowest product.
     Product(usize, usize),
+    // K and the place of `--` among the arguments.
+    Meet(usize, usize),
+    Slots(Asked),
+    InSpace(SpaceOrder),
+}
+
+// One whose answer needs space: a listing, or a tree at k.
+#[derive(Clone, Copy, Debug, PartialEq, Eq)]
+pub enum SpaceOrder {
+    Listing(Asked),
+    ByMean(Asked),
     Tree(usize),
     Page(usize),
-    Meet(usize, usize),
-    Slots(usize, u16),
-    Fullest(usize, usize),
-    Live(usize),
+}
+
+impl From<SheetOrder> for Order {
+    fn from(order: SheetOrder) -> Order {
+        Order::OnSheet(order)
+    }
+}
+
+impl From<SpaceOrder> for Order {
+    fn from(order: SpaceOrder) -> Order {
+        Order::OnSheet(SheetOrder::InSpace(order))
+    }
 }
 
 // Up to 2^53 a float holds each whole number.
@@ -33,17 +63,21 @@ fn require(rt: &impl Eprint, right: bool, what: &str) -> Result<(), Stopped> {
     if right { Ok(()) } else { Err(wrong(rt, what)) }
 }
 
-fn number_at(rt: &impl Env, i: usize) -> Option<usize> {
+// What `read` makes of argument i, and of an empty word where there is none or it is longer than any that is taken.
+fn word_at<T, F: FnOnce(&[u8]) -> T>(rt: &impl Env, i: usize, read: F) -> T
+    requires { F.IsAlwaysCallable read }
+{
     let mut word = [0u8; 64];
     let n = rt.arg(i, &mut word).unwrap_or(0);
-    decimal(&word[..n])
+    read(&word[..n])
 }
 
-// Whether argument i is this word of at most 15 bytes.
+fn number_at(rt: &impl Env, i: usize) -> Option<usize> {
+    word_at(rt, i, decimal)
+}
+
 fn is_word(rt: &impl Env, i: usize, wanted: &[u8]) -> bool {
-    let mut word = [0u8; 16];
-    let n = rt.arg(i, &mut word).unwrap_or(0);
-    &word[..n] == wanted
+    word_at(rt, i, |word| word == wanted)
 }
 
 // K at argument i; that it is no number is told.
@@ -52,64 +86,60 @@ fn k_at(rt: &(impl Env + Eprint), i: usize) -> Result<usize, Stopped> {
 }
 
 // K at argument i and T at argument j, or what is wrong with them told.
-fn k_and_t(rt: &(impl Env + Eprint), i: usize, j: usize) -> Result<(usize, u16), Stopped> {
+fn k_and_t(rt: &(impl Env + Eprint), i: usize, j: usize) -> Result<Asked, Stopped> {
     let k = k_at(rt, i)?;
     let t = number_at(rt, j)
         .and_then(|t| u16::try_from(t).ok())
         .ok_or_else(|| wrong(rt, "T must be a number, 0 to 65535"))?;
-    Ok((k, t))
+    Ok(Asked { k, t })
 }
 
-fn listing(rt: &(impl Env + Eprint), count: usize) -> Result<Order, Stopped> {
+fn listing(rt: &(impl Env + Eprint), count: usize) -> Result<SpaceOrder, Stopped> {
     let by_mean = count == 6 && is_word(rt, 2, b"--by-mean");
     let what = "listing takes K, T and a sheet, with --by-mean before them or not";
     require(rt, by_mean || count == 5, what)?;
     if by_mean {
-        let (k, t) = k_and_t(rt, 3, 4)?;
-        return Ok(Order::ByMean(k, t));
+        k_and_t(rt, 3, 4).map(SpaceOrder::ByMean)
+    } else {
+        k_and_t(rt, 2, 3).map(SpaceOrder::Listing)
     }
-    let (k, t) = k_and_t(rt, 2, 3)?;
-    Ok(Order::Listing(k, t))
 }
 
-fn mean(rt: &(impl Env + Eprint), count: usize) -> Result<Order, Stopped> {
+fn mean(rt: &(impl Env + Eprint), count: usize) -> Result<SheetOrder, Stopped> {
     require(rt, 6 <= count, "mean takes K, T, names and a sheet")?;
-    let (k, t) = k_and_t(rt, 2, 3)?;
-    Ok(Order::Mean(k, t))
+    k_and_t(rt, 2, 3).map(SheetOrder::Mean)
 }
 
-fn by_product(rt: &(impl Env + Eprint)) -> Result<Order, Stopped> {
+fn by_product(rt: &(impl Env + Eprint)) -> Result<SheetOrder, Stopped> {
     let k = k_at(rt, 2)?;
     let x = number_at(rt, 4)
         .filter(|x| *x <= LARGEST_PRODUCT)
         .ok_or_else(|| wrong(rt, "X must be a whole number, 0 to 9007199254740992"))?;
-    Ok(Order::Product(k, x))
+    Ok(SheetOrder::Product(k, x))
 }
 
-fn strong(rt: &(impl Env + Eprint), count: usize) -> Result<Order, Stopped> {
+fn strong(rt: &(impl Env + Eprint), count: usize) -> Result<SheetOrder, Stopped> {
     if count == 6 && is_word(rt, 3, b"product") {
         return by_product(rt);
     }
     let by_weakest = count == 6 && is_word(rt, 3, b"weakest");
     let what = "strong takes K, product X or weakest T, and a sheet";
     require(rt, by_weakest, what)?;
-    let (k, t) = k_and_t(rt, 2, 4)?;
-    Ok(Order::Weakest(k, t))
+    k_and_t(rt, 2, 4).map(SheetOrder::Weakest)
 }
 
-fn meet(rt: &(impl Env + Eprint), count: usize) -> Result<Order, Stopped> {
+fn meet(rt: &(impl Env + Eprint), count: usize) -> Result<SheetOrder, Stopped> {
     require(rt, 5 <= count, "meet takes K, names, --, names and a sheet")?;
     let k = k_at(rt, 2)?;
     let middle = (3..count.saturating_sub(1))
         .find(|i| is_word(rt, *i, b"--"))
         .ok_or_else(|| wrong(rt, "meet takes -- between the names of the two cliques"))?;
-    Ok(Order::Meet(k, middle))
+    Ok(SheetOrder::Meet(k, middle))
 }
 
-fn slots(rt: &(impl Env + Eprint), count: usize) -> Result<Order, Stopped> {
+fn slots(rt: &(impl Env + Eprint), count: usize) -> Result<SheetOrder, Stopped> {
     require(rt, count == 5, "slots takes K, T and a sheet")?;
-    let (k, t) = k_and_t(rt, 2, 3)?;
-    Ok(Order::Slots(k, t))
+    k_and_t(rt, 2, 3).map(SheetOrder::Slots)
 }
 
 fn fullest(rt: &(impl Env + Eprint), count: usize) -> Result<Order, Stopped> {
@@ -145,36 +175,27 @@ fn k_of(
 fn command(rt: &(impl Env + Eprint), word: &[u8], count: usize) -> Result<Order, Stopped> {
     match word {
         b"help" => Ok(Order::Help),
-        b"pack" => plain(
-            rt,
-            Order::Pack,
-            count,
-            2,
-            "pack takes no argument: it reads a text and writes a sheet",
-        ),
-        b"from-dump" => plain(
-            rt,
-            Order::FromDump,
-            count,
-            3,
-            "from-dump takes a dump: it writes a sheet",
-        ),
-        b"show" => plain(rt, Order::Show, count, 3, "show takes a sheet"),
-        b"listing" => listing(rt, count),
-        b"mean" => mean(rt, count),
-        b"strong" => strong(rt, count),
-        b"tree" => k_of(rt, count, 4, "tree takes K and a sheet").map(Order::Tree),
-        b"page" => k_of(rt, count, 4, "page takes K and a sheet").map(Order::Page),
-        b"meet" => meet(rt, count),
-        b"slots" => slots(rt, count),
+        b"pack" => {
+            let what = "pack takes no argument: it reads a text and writes a sheet";
+            plain(rt, Order::Pack, count, 2, what)
+        }
+        b"from-dump" => {
+            let what = "from-dump takes a dump: it writes a sheet";
+            plain(rt, Order::FromDump, count, 3, what)
+        }
+        b"show" => plain(rt, SheetOrder::Show.into(), count, 3, "show takes a sheet"),
+        b"listing" => Ok(listing(rt, count)?.into()),
+        b"mean" => Ok(mean(rt, count)?.into()),
+        b"strong" => Ok(strong(rt, count)?.into()),
+        b"tree" => Ok(SpaceOrder::Tree(k_of(rt, count, 4, "tree takes K and a sheet")?).into()),
+        b"page" => Ok(SpaceOrder::Page(k_of(rt, count, 4, "page takes K and a sheet")?).into()),
+        b"meet" => Ok(meet(rt, count)?.into()),
+        b"slots" => Ok(slots(rt, count)?.into()),
         b"fullest" => fullest(rt, count),
-        b"live" => k_of(
-            rt,
-            count,
-            3,
-            "live takes K: it answers lines of standard input",
-        )
-        .map(Order::Live),
+        b"live" => {
+            let what = "live takes K: it answers lines of standard input";
+            k_of(rt, count, 3, what).map(Order::Live)
+        }
         _ => Err(wrong(rt, "no such command")),
     }
 }
@@ -184,7 +205,5 @@ pub fn asked(rt: &(impl Env + Eprint)) -> Result<Order, Stopped> {
     if count < 2 {
         return Ok(Order::Help);
     }
-    let mut word = [0u8; 16];
-    let n = rt.arg(1, &mut word).unwrap_or(0);
-    command(rt, &word[..n], count)
+    word_at(rt, 1, |word| command(rt, word, count))
 }

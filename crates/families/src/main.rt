@@ -14,7 +14,7 @@ mod pack;
 mod paper;
 mod usage;
 
-use args::Order;
+use args::{Order, SheetOrder, SpaceOrder};
 use console::Stopped;
 use limits::{LONGEST_SHEET, SHEET_SPACE, SPACE};
 use std::env::Env;
@@ -23,32 +23,42 @@ use usage::USAGE;
 
 // A call whose answer needs space.
 #[inline(never)]
-fn in_space(rt: &(impl Print + Eprint), order: Order, s: &[u8]) -> Result<(), Stopped> {
+fn in_space(rt: &(impl Print + Eprint), order: SpaceOrder, s: &[u8]) -> Result<(), Stopped> {
     let mut out = [0u8; SPACE];
     match order {
-        Order::Listing(k, t) => calls::listing(rt, s, k, t, &mut out),
-        Order::ByMean(k, t) => calls::by_mean(rt, s, k, t, &mut out),
-        Order::Tree(k) => calls::tree(rt, s, k, &mut out),
-        Order::Page(k) => calls::page(rt, s, k, &mut out),
-        _ => Ok(()),
+        SpaceOrder::Listing(asked) => {
+            let listing = calls::listing(rt, s, asked, &mut out)?;
+            report::families(rt, listing, format_args!(", threshold {}", asked.t))?;
+            Ok(())
+        }
+        SpaceOrder::ByMean(asked) => {
+            let listing = calls::listing(rt, s, asked, &mut out)?;
+            report::by_mean(rt, listing, asked.t)
+        }
+        SpaceOrder::Tree(k) => {
+            let lines = calls::tree(rt, s, k, &mut out)?;
+            report::tree(rt, s, k, lines)?;
+            Ok(())
+        }
+        SpaceOrder::Page(k) => paper::print(rt, s, calls::tree(rt, s, k, &mut out)?),
     }
 }
 
-fn answer(rt: &(impl Env + Print + Eprint), order: Order, s: &[u8]) -> Result<(), Stopped> {
+fn answer(rt: &(impl Env + Print + Eprint), order: SheetOrder, s: &[u8]) -> Result<(), Stopped> {
     match order {
-        Order::Show => report::show(rt, s),
-        Order::Mean(k, t) => means::mean(rt, s, k, t),
-        Order::Weakest(k, t) => strong::weakest(rt, s, k, t),
-        Order::Product(k, x) => strong::product(rt, s, k, x),
-        Order::Meet(k, middle) => meet::meet(rt, s, k, middle),
-        Order::Slots(k, t) => report::slots(rt, s, k, t),
-        _ => in_space(rt, order, s),
+        SheetOrder::Show => report::show(rt, s),
+        SheetOrder::Mean(asked) => means::mean(rt, s, asked),
+        SheetOrder::Weakest(asked) => strong::weakest(rt, s, asked),
+        SheetOrder::Product(k, x) => strong::product(rt, s, k, x),
+        SheetOrder::Meet(k, middle) => meet::meet(rt, s, k, middle),
+        SheetOrder::Slots(asked) => report::slots(rt, s, asked),
+        SheetOrder::InSpace(order) => in_space(rt, order, s),
     }
 }
 
 // A command on the sheet that the last argument names.
 #[inline(never)]
-fn on_sheet(rt: &(impl Env + Files + Print + Eprint), order: Order) -> Result<(), Stopped> {
+fn on_sheet(rt: &(impl Env + Files + Print + Eprint), order: SheetOrder) -> Result<(), Stopped> {
     let mut input = [0u8; SHEET_SPACE];
     let n = console::last_file(rt, &mut input)?;
     if LONGEST_SHEET < n {
@@ -70,7 +80,7 @@ fn run(rt: &(impl Env + Files + Input + Print + Eprint)) -> Result<(), Stopped> 
         Order::FromDump => from_dump::from_dump(rt),
         Order::Fullest(p, k) => full_sheet::write(rt, p, k),
         Order::Live(k) => live::run(rt, k),
-        order => on_sheet(rt, order),
+        Order::OnSheet(order) => on_sheet(rt, order),
     }
 }
 

@@ -14,7 +14,7 @@ fn tell_fault(rt: &impl Eprint, t: &[u8], refusal: Refusal) -> Stopped {
     refuse(rt, refusal, format_args!("line {line}: {words}"))
 }
 
-// The first n bytes of an answer.
+// The first n bytes of an answer. The count comes beside the bytes: the calls answer so, for C.
 pub fn put_out(rt: &impl Print, out: &[u8], n: usize) -> io::Result<()> {
     rt.write_all(&out[..n.min(out.len())])
 }

@@ -34,11 +34,8 @@ fn put_page(
     Ok(())
 }
 
-// The first n lines of a tree.
 #[inline(never)]
-pub fn print(rt: &(impl Print + Eprint), s: &[u8], tree: &[u8], n: usize) -> Result<(), Stopped> {
-    let size = tree_lines::line_length();
-    let end = tree.len().min(size.saturating_mul(n));
+pub fn print(rt: &(impl Print + Eprint), s: &[u8], tree: &[u8]) -> Result<(), Stopped> {
     let mut out = [0u8; PAGE_SPACE];
-    put_page(rt, s, &tree[..end], &mut out)
+    put_page(rt, s, tree, &mut out)
 }

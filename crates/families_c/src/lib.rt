@@ -1,6 +1,7 @@
 #![tactic(auto)]
 
-// The C interface: each call as the crates below have it, with numbers, slices and structs of numbers only. include/families.h declares it.
+// The C interface: each call as the crates below have it, with numbers, slices and structs of numbers only. include/families.h declares it. Each call puts the
+// four tables into a `Lent` itself: of slices that a function had handed on, no proof would know what they hold afterwards.
 ghost use Rattle.std.specs.Prelude.{◌≡◌, length};
 ghost use Rattle.answers.specs.Answers.{says, say_of};
 ghost use Rattle.answers.specs.Verdict.{written};

@@ -14,6 +14,7 @@ fn name_byte(i: usize) -> u8
     requires { i < 512 }
     ensures { result ≡ get_or (part_name (i / 8)) (i % 8) 0 }
 {
+    // Below 64: the cast loses nothing.
     let q = (i / 8) as u8;
     match i % 8 {
         0 => b'P',
@@ -29,6 +30,7 @@ fn name_parts(p: usize, names: &mut [u8])
     requires { (p ≤ 64) × (length names.old ≡ 512) }
     ensures { take (8 * p) names.new ≡ part_names p }
 {
+    // By number, which gives the byte: enumerate over the part would give the same number in a longer line.
     for i in 0..8 * p {
         names[i] = name_byte(i);
     }

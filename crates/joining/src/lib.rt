@@ -6,7 +6,7 @@ ghost use Rattle.sets.specs.Lists.{all, below};
 ghost use Rattle.joining.specs.Entries.{root_of};
 ghost use Rattle.joining.specs.Model.{halved};
 
-// The joining entry of slot i; i itself past the table's end.
+// The joining entry of slot i; i itself past the table's end. By `as`: usize has no From<u32>.
 fn entry(entries: &[u32], i: usize) -> usize
     ensures { result ≡ get_or entries.now i i }
 {
@@ -26,6 +26,7 @@ pub fn root(entries: &[u32], i: usize) -> usize
     ensures { (result ≡ root_of entries.now i) × (result ≤ i) }
 {
     let mut r = i;
+    // No `for`: each slot comes from the entry of the one before it.
     while let Some(e) = next(entries, r) {
         r = e;
     }
@@ -45,6 +46,7 @@ pub fn halve(entries: &mut [u32], i: usize) -> usize
     ensures entries_after { entries.new ≡ halved entries.old i }
 {
     let mut r = i;
+    // As in root; and the entries are written on the way.
     while let Some(f) = next(entries, r) {
         let Some(g) = next(entries, f) else {
             return f;
@@ -56,6 +58,7 @@ pub fn halve(entries: &mut [u32], i: usize) -> usize
 }
 
 // Every entry becomes zero.
+// One for each width of entry, here, in sets and in clique_list: docs/ARCHITECTURE.md names the three.
 pub fn clear_entries(entries: &mut [u32])
     ensures { entries.new ≡ replicate (length entries.old) 0 }
 {

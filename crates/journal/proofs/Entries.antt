@@ -3,10 +3,10 @@ use mathlib.Core.Path.{◌≡◌, refl, sym, ap, ap₂, ◌∙◌}
 use mathlib.Core.Bool.{true}
 use mathlib.Core.List.Memᴰ
 use mathlib.Core.List.{List, [], ◌∷◌, ◌++◌, map}
-use Prim.Native.Nat.{ℕ, zero, suc, ◌+◌, ◌-◌, ◌/◌, ◌%◌, ◌≤◌, ◌<◌}
+use Prim.Native.Nat.{ℕ, suc, ◌+◌, ◌-◌, ◌/◌, ◌%◌, ◌≤◌, ◌<◌}
 use native.Mathlib.Omega.{arith}
 use lib.ListN.{length, get_or, set, take, replicate, length-map, length-append, length-replicate}
-use lib.Seq.{take_at, set_at, get_or_at, take-suc, append_snoc}
+use lib.Seq.{take_all, take_at, set_at, get_or_at, take-suc, append_snoc}
 use Rattle.sets.specs.Lists.{◌∈◌, keep}
 use Rattle.sets.specs.Value.{width}
 use Rattle.sets.proofs.ListLaws.{keep_all, map_append}
@@ -100,23 +100,19 @@ module _ (p : ℕ) (L : List Link) (wide : p ≤ width) (ok : legal p L ≡ true
   unfolding readable
   links_readable = ap (keep (good_parts p)) entries_links ∙ keep_all (good_parts p) L (legal_parts p L ok)
 
--- ---- the weight of the last of the first n entries
+-- ---- the weight of the last entry
 
-last_none : (J : List ℕ) → 65535 ≡ last_weight (map entry_link (take 0 J))
+pub last_none : (J : List ℕ) → length J ≡ 0 → 65535 ≡ last_weight (map entry_link J)
 unfolding last_weight
-last_none J = refl
+last_none [] e = refl
+last_none (x ∷ J) e = absurd (omega (arith, e))
 
-last_some : (J : List ℕ) (n w : ℕ) → n < length J → w ≡ (entry_link (get_or J n 0)).weight → w ≡ last_weight (map entry_link (take (suc n) J))
-last_some J n w h e =
+last_of : (J : List ℕ) (n w : ℕ) → n < length J → w ≡ (entry_link (get_or J n 0)).weight → w ≡ last_weight (map entry_link (take (suc n) J))
+last_of J n w h e =
     e
     ∙ sym (last_more (map entry_link (take n J)) (entry_link (get_or J n 0)))
     ∙ ap last_weight (sym (ap (map entry_link) (take-suc J n 0 h) ∙ map_append entry_link (take n J) (get_or J n 0 ∷ [])))
 
-pub last_zero : (J : List ℕ) (n : ℕ) → n ≡ 0 → 65535 ≡ last_weight (map entry_link (take n J))
-last_zero J n e = last_none J ∙ sym (ap (λ (i : ℕ). last_weight (map entry_link (take i J))) e)
-
-pub last_one : (J : List ℕ) (n w : ℕ) → (n ≡ 0 → ⊥) → n ≤ length J → w ≡ (entry_link (get_or J (n - 1) 0)).weight → w ≡ last_weight (map entry_link (take n J))
-last_one J zero w f h e = absurd (f refl)
-last_one J (suc n) w f h e =
-    let d : suc n - 1 ≡ n = omega arith in
-    last_some J n w (omega (arith, h)) (e ∙ ap (λ (i : ℕ). (entry_link (get_or J i 0)).weight) d)
+pub last_some : (J : List ℕ) (w : ℕ) → 0 < length J → w ≡ (entry_link (get_or J (length J - 1) 0)).weight → w ≡ last_weight (map entry_link J)
+last_some J w h e =
+    last_of J (length J - 1) w (omega (arith, h)) e ∙ ap (λ (M : List ℕ). last_weight (map entry_link M)) (take_all (suc (length J - 1)) J (omega (arith, h)))

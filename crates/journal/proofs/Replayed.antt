@@ -4,16 +4,12 @@ use mathlib.Core.Logic.{◌⊎◌, inl, inr}
 use mathlib.Core.Bool.{true, false}
 use mathlib.Core.List.{List, [], ◌∷◌, map}
 use Prim.Native.Nat.{ℕ, ◌+◌, ◌≤◌, ◌<◌}
-use native.Mathlib.Omega.{arith}
 use native.Mathlib.Numerals.{add-one}
-use lib.Dec.{ltb}
 use lib.ListN.{length, get_or, drop, drop_of_length-le}
 use lib.Seq.{drop-cons}
-use borrow.Author.Tests.{lt-ltb, ltb-true}
 use Rattle.sets.specs.Lists.{keep}
 use Rattle.sets.proofs.ListLaws.{keep_yes, keep_no}
-use Rattle.sets.proofs.Tests.{split, iff, not_so}
-use Rattle.percolation.proofs.Accepted.{good_parts_lem, parts_good}
+use Rattle.sets.proofs.Tests.{split}
 use Rattle.percolation.specs.Links.{Link}
 use Rattle.percolation.specs.Steps.{good_parts}
 use Rattle.checks.specs.Model.{marked}
@@ -22,16 +18,6 @@ use Rattle.search.specs.Model.{new_cliques}
 use Rattle.clique_taking.specs.Model.{took_all}
 use Rattle.runs.specs.Model.{rows_with, took_links}
 use Rattle.journal.specs.Model.{entry_link, readable}
-
--- ---- the parts of an entry
-
-pub bad_entry : (p : ℕ) (l : Link) (h : ℕ) → h ≡ l.high → p ≤ h → false ≡ good_parts p l
-bad_entry p l h e m = sym (not_so (good_parts p l) (λ t. omega (arith, (good_parts_lem p l t).1, e, m)))
-
-pub good_entry : (p : ℕ) (l : Link) (a b h : ℕ) → a ≡ l.low → b ≡ l.high → h ≡ l.high → h < p → ltb a b ≡ good_parts p l
-good_entry p l a b h ea eb eh m =
-    iff (ltb a b) (good_parts p l) (λ t. parts_good p l (omega (arith, ltb-true a b t, ea, eb)) (omega (arith, eh, m)))
-    (λ t. lt-ltb a b (omega (arith, (good_parts_lem p l t).0, ea, eb)))
 
 -- ---- one entry
 

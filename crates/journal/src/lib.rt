@@ -1,52 +1,30 @@
 #![tactic(auto)]
 
-// The journal of the steps: an entry for each link that remains, and the tables made again from the entries. For sister crates.
+// The journal of the steps: an entry for each link that remains, and the tables made again from the entries. For sister crates. The journal is lent by C, and
+// how many links remain stands in the state beside it, which C holds too. Numbers are widened and narrowed by `as` where no From is: usize and u64, and the
+// parts of an entry.
 ghost use Rattle.std.specs.Prelude.{◌≡◌, [], ◌∷◌, map, suc, ◌-◌, ◌≤◌, ◌<◌, min, length, get_or, set, take};
 ghost use Rattle.sets.specs.Value.{width, no_rows};
-ghost use Rattle.percolation.specs.Steps.{good_parts};
-ghost use Rattle.checks.specs.Model.{link_row};
+ghost use Rattle.checks.specs.Model.{as_link};
 ghost use Rattle.checks.specs.Neighbours.{last_weight};
-ghost use Rattle.slots.specs.Tables.{room};
 ghost use Rattle.slots.specs.Lent.{tables_of, SameLent};
+ghost use Rattle.slots.specs.List.{slots_of, SameSlots};
 ghost use Rattle.runs.specs.Model.{rows_with, took_links};
 ghost use Rattle.journal.specs.Journal.{journal_length, whole, journal_entry};
-ghost use Rattle.journal.specs.Link.{as_link};
 ghost use Rattle.journal.specs.Model.{entry_link, readable, makes_none, refilled};
 
-use checks::LinkRow;
+use checks::Link;
 use sets::Rows;
-use slots::Lent;
+use slots::{Lent, SlotList};
 
-// A link of the steps: its parts, the lower first, and its weight.
-#[derive(Clone, Copy, Debug, PartialEq, Eq)]
-pub struct Link {
-    pub low: usize,
-    pub high: usize,
-    pub weight: u16,
-}
-
-// The link of an entry.
-impl From<u64> for Link {
-    ghost from_gives = { λ e l. as_link l ≡ entry_link e };
-
-    fn from(e: u64) -> Link {
-        Link {
-            low: (e / 4294967296) as usize,
-            high: (e / 65536 % 65536) as usize,
-            weight: (e % 65536) as u16,
-        }
-    }
-}
-
-impl From<Link> for LinkRow {
-    ghost from_gives = { λ l r. link_row r ≡ as_link l };
-
-    fn from(link: Link) -> LinkRow {
-        LinkRow {
-            low: link.low,
-            high: link.high,
-            weight: usize::from(link.weight),
-        }
+// The link of an entry. No From: neither type is of this crate.
+pub fn link_of(e: u64) -> Link
+    ensures { as_link result ≡ entry_link e }
+{
+    Link {
+        low: (e / 4294967296) as usize,
+        high: (e / 65536 % 65536) as usize,
+        weight: (e % 65536) as u16,
     }
 }
 
@@ -97,22 +75,14 @@ pub fn add(journal: &mut [u64], n: usize, link: Link) -> usize
     one_more(n)
 }
 
-// The weight of the last of the first n links, 65,535 with none. For sister crates: 20 shows that the journal has so many entries.
-pub fn last_weight(journal: &[u64], n: usize) -> usize
-    requires { n ≤ length journal.now }
-    ensures { result ≡ last_weight (map entry_link (take n journal.now)) }
+// The weight of the last link of these entries; 65,535 with none, as the state that C holds has it.
+pub fn last_weight(entries: &[u64]) -> usize
+    ensures { result ≡ last_weight (map entry_link entries.now) }
 {
-    if n == 0 {
+    let Some(last) = entries.last() else {
         return 65535;
-    }
-    usize::from(Link::from(journal[n - 1]).weight)
-}
-
-// Whether the parts of a link are the lower first and below p.
-fn good_parts(link: Link, p: usize) -> bool
-    ensures { result ≡ good_parts p (as_link link) }
-{
-    link.high < p && link.low < link.high
+    };
+    usize::from(link_of(*last).weight)
 }
 
 // The entry at i, 0 past the end.
@@ -126,19 +96,18 @@ pub fn at(journal: &[u64], i: usize) -> u64
 fn mark(e: u64, p: usize, rows: &mut [u64])
     ensures { rows.new ≡ rows_with rows.old (readable p (e ∷ [])) }
 {
-    let link = Link::from(e);
-    if good_parts(link, p) {
-        checks::add_link(rows, link.low, link.high);
+    let link = link_of(e);
+    if checks::good_parts(p, link) {
+        checks::add_link(rows, link);
     }
 }
 
-// The rows of neighbours of the first n entries. For sister crates: 20 shows that the journal has so many.
-pub fn rows_of(journal: &[u64], n: usize, p: usize) -> Rows
-    requires { n ≤ length journal.now }
-    ensures { result ≡ rows_with no_rows (readable p (take n journal.now)) }
+// The rows of neighbours of the links of these entries.
+pub fn rows_of(entries: &[u64], p: usize) -> Rows
+    ensures { result ≡ rows_with no_rows (readable p entries.now) }
 {
     let mut rows = sets::no_rows();
-    for e in &journal[..n] {
+    for e in entries {
         mark(*e, p, &mut rows);
     }
     rows
@@ -149,7 +118,7 @@ fn makes_none(e: u64, rows: &[u64], k: usize) -> bool
     requires { 2 ≤ k }
     ensures { result ≡ makes_none rows.now k e }
 {
-    let link = Link::from(e);
+    let link = link_of(e);
     let both = sets::meet(sets::at(rows, link.low), sets::at(rows, link.high));
     let none = sets::empty();
     let n = search::count(rows, false, k - 2, both, none);
@@ -157,38 +126,27 @@ fn makes_none(e: u64, rows: &[u64], k: usize) -> bool
 }
 
 // One entry more in the rows and the tables, none where its parts are not good.
-fn retake(e: u64, p: usize, k: usize, rows: &mut [u64], tables: &mut Lent, used: usize) -> usize
-    requires { (p ≤ width) × (2 ≤ k) × (used ≤ room tables.old.entries.now) }
-    ensures lent { SameLent tables.old tables.new }
-    ensures tables_after { tables_of tables.new result ≡ took_links k rows.old (tables_of tables.old used) (readable p (e ∷ [])) }
-    ensures rows_after { (rows.new ≡ rows_with rows.old (readable p (e ∷ []))) × (result ≤ room tables.new.entries.now) }
+fn retake(e: u64, p: usize, k: usize, rows: &mut [u64], slots: &mut SlotList)
+    requires { (p ≤ width) × (2 ≤ k) }
+    ensures same { SameSlots slots.old slots.new }
+    ensures slots_after { slots_of slots.new ≡ took_links k rows.old (slots_of slots.old) (readable p (e ∷ [])) }
+    ensures rows_after { rows.new ≡ rows_with rows.old (readable p (e ∷ [])) }
 {
-    let link = Link::from(e);
-    if !good_parts(link, p) {
-        return used;
+    let link = link_of(e);
+    if checks::good_parts(p, link) {
+        runs::take_link(rows, slots, k, link);
     }
-    runs::take_link(rows, tables, used, k, link.low, link.high)
 }
 
-// The links of the first n entries, one after the other, in tables with no slot used.
-fn replay(
-    journal: &[u64],
-    n: usize,
-    p: usize,
-    k: usize,
-    rows: &mut [u64],
-    tables: &mut Lent,
-) -> usize
-    requires { (n ≤ length journal.now) × (p ≤ width) × (2 ≤ k) }
-    ensures lent { SameLent tables.old tables.new }
-    ensures tables_after { tables_of tables.new result ≡ took_links k rows.old (tables_of tables.old 0) (readable p (take n journal.now)) }
-    ensures rows_after { (rows.new ≡ rows_with rows.old (readable p (take n journal.now))) × (result ≤ room tables.new.entries.now) }
+// The links of these entries, one after the other.
+fn replay(entries: &[u64], p: usize, k: usize, rows: &mut [u64], slots: &mut SlotList)
+    requires { (p ≤ width) × (2 ≤ k) }
+    ensures same { SameSlots slots.old slots.new }
+    ensures slots_after { slots_of slots.new ≡ took_links k rows.old (slots_of slots.old) (readable p entries.now) }
 {
-    let mut used = 0;
-    for next in &journal[..n] {
-        used = retake(*next, p, k, rows, tables, used);
+    for next in entries {
+        retake(*next, p, k, rows, slots);
     }
-    used
 }
 
 // The tables without the link of entry n, where the rows are those of the entries before it: as they are where it made no k-clique, else made again from
@@ -212,5 +170,7 @@ pub fn refill(
     }
     runs::clear(tables);
     let mut seen = sets::no_rows();
-    replay(journal, n, p, k, &mut seen, tables)
+    let slots = &mut SlotList { tables, used: 0 };
+    replay(&journal[..n], p, k, &mut seen, slots);
+    slots.used
 }

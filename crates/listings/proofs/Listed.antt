@@ -1,19 +1,21 @@
 -- What stands at the ends of slots, put in order one after the other: the communities of the family that the tables show. Assumes nothing.
 use mathlib.Core.Path.{◌≡◌, refl, sym, ap, ◌∙◌}
 use mathlib.Core.Logic.{inr}
-use mathlib.Core.Bool.{true, false}
+use mathlib.Core.Bool.{Bool, true, false, cond}
 use mathlib.Core.List.Memᴰ
 use mathlib.Core.List.{List, [], ◌∷◌, ◌++◌, map}
-use Prim.Native.Nat.{ℕ, suc, ◌≤◌, ◌<◌}
+use Prim.Native.Nat.{ℕ, zero, suc, ◌≤◌, ◌<◌}
 use native.Mathlib.Omega.{arith}
+use native.Mathlib.Numerals.{add-one}
+use Rattle.std.specs.List.{filter, range_with_len}
 use lib.Dec.{eqb}
 use lib.ListN.{length, length-map}
 use borrow.Author.Tests.{eq-eqb, eqb-true}
-use Rattle.sets.specs.Lists.{◌∈◌, below, insert_by, insert_all}
+use Rattle.sets.specs.Lists.{◌∈◌, keep, from, below}
 use Rattle.sets.specs.Sets.{before}
 use Rattle.sets.specs.Value.{row}
-use Rattle.sets.proofs.ListLaws.{Holds, Distinct, keep_at, keep_of, keep_distinct, rising_distinct, number_order, below_of, below_at, below_rising, rising_map, map_append, keep_below_yes, keep_below_no}
-use Rattle.sets.proofs.Insertion.{insert_all_length, insert_all_more, insert_all_at, insert_all_from, insert_all_image}
+use Rattle.sets.proofs.ListLaws.{Holds, Distinct, keep_at, keep_of, keep_distinct, rising_distinct, number_order, below_of, below_at, below_rising, rising_map, keep_below_yes, keep_below_no}
+use Rattle.sets.proofs.Insertion.{insert_all_length, insert_all_at, insert_all_from, insert_all_image}
 use Rattle.sets.proofs.Order.{set_order}
 use Rattle.percolation.specs.Percolate.{Community, shown, communities}
 use Rattle.percolation.proofs.Communities.{communities_rising}
@@ -46,6 +48,21 @@ module _ (es : List ℕ) where
   unfolding root_slots
   roots_no i e = keep_below_no (λ j. eqb (root_of es j) j) i e
 
+-- the numbers that a test keeps, as std filters them
+pub range_kept : (p : ℕ → Bool) (a n : ℕ) → filter p (range_with_len a n) ≡ keep p (from a n)
+unfolding keep from
+range_kept p a zero = refl
+range_kept p a (suc n) = rw (add-one a) (go (p a) (range_kept p (suc a) n))
+  where
+    go : (b : Bool) → filter p (range_with_len (suc a) n) ≡ keep p (from (suc a) n)
+        → cond b (a ∷ filter p (range_with_len (suc a) n)) (filter p (range_with_len (suc a) n)) ≡ elim b [ true ↦ a ∷ keep p (from (suc a) n) | false ↦ keep p (from (suc a) n) ]
+    go true e = ap (λ (l : List ℕ). a ∷ l) e
+    go false e = e
+
+pub roots_filtered : (es : List ℕ) (n : ℕ) → filter (λ i. eqb (root_of es i) i) (range_with_len 0 n) ≡ root_slots es n
+unfolding root_slots below
+roots_filtered es n = range_kept (λ i. eqb (root_of es i) i) 0 n
+
 -- ---- what stands at them
 
 module _ (es ms us : List ℕ) where
@@ -53,21 +70,6 @@ module _ (es ms us : List ℕ) where
   unfolding listed
   listed_length n =
       insert_all_length by_small [] (map (stands_at ms us) (root_slots es n)) ∙ (let e = length-map (root_slots es n) (stands_at ms us) in omega arith)
-
-  pub listed_none : listed es ms us 0 ≡ []
-  unfolding listed
-  listed_none = refl
-
-  pub listed_yes : (i : ℕ) → eqb (root_of es i) i ≡ true → listed es ms us (suc i) ≡ insert_by by_small (stands_at ms us i) (listed es ms us i)
-  unfolding listed
-  listed_yes i e =
-      ap (λ (l : List ℕ). insert_all by_small [] (map (stands_at ms us) l)) (roots_yes es i e)
-      ∙ ap (insert_all by_small []) (map_append (stands_at ms us) (root_slots es i) (i ∷ []))
-      ∙ insert_all_more by_small [] (map (stands_at ms us) (root_slots es i)) (stands_at ms us i)
-
-  pub listed_no : (i : ℕ) → eqb (root_of es i) i ≡ false → listed es ms us (suc i) ≡ listed es ms us i
-  unfolding listed
-  listed_no i e = ap (λ (l : List ℕ). insert_all by_small [] (map (stands_at ms us) l)) (roots_no es i e)
 
   pub listed_of : (n : ℕ) (c : Community) → c ∈ listed es ms us n → (i : ℕ) × (i < n) × (root_of es i ≡ i) × (stands_at ms us i ≡ c)
   unfolding listed

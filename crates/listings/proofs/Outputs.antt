@@ -1,26 +1,13 @@
 -- What a call with an output must do, by its verdict. Assumes nothing.
 use mathlib.Core.Path.{◌≡◌, sym, ap, ◌∙◌, subst⁻¹}
 use mathlib.Core.List.{List}
-use Prim.Native.Nat.{ℕ, ◌≤◌, ◌<◌}
-use lib.Dec.{leb}
+use Prim.Native.Nat.{ℕ}
 use lib.ListN.{length}
-use borrow.Author.Tests.{le-leb, lt-leb}
 use Rattle.answers.specs.Verdict.{Verdict, accepted, refused, written}
 use Rattle.answers.specs.Answers.{Answer, counts, refuses, says}
-use Rattle.answers.proofs.Laws.{last_stop, last_go, say_accepted, say_refused, said_count, written_refused, written_accepted}
+use Rattle.answers.proofs.Laws.{say_accepted, say_refused, said_count, written_refused, written_accepted}
 use Rattle.percolation.specs.Percolate.{Community, listing_bytes}
-use Rattle.listings.specs.Listing.{check_out, Writes, Gives}
-
--- ---- 16
-
-module _ (bytes : List ℕ) (len : ℕ) where
-  pub out_short : len < length bytes → check_out bytes len ≡ refused 16 0
-  unfolding check_out
-  out_short h = last_stop (leb (length bytes) len) 16 0 (lt-leb (length bytes) len h)
-
-  pub out_fits : length bytes ≤ len → check_out bytes len ≡ accepted
-  unfolding check_out
-  out_fits h = last_go (leb (length bytes) len) 16 0 (le-leb (length bytes) len h)
+use Rattle.listings.specs.Listing.{Writes, Gives}
 
 -- ---- what is written
 

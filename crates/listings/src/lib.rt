@@ -20,8 +20,8 @@ fn community_length() -> usize
     sets::byte_count() + sets::byte_count()
 }
 
-// Puts a community among the n of a listing, where its smallest clique belongs; those behind it move up. For sister crates: that there is room is what
-// 16 shows.
+// Puts a community among the n of a listing, where its smallest clique belongs; those behind it move up. The output is longer than the listing, which
+// grows in it: hence n. For sister crates: that there is room is what 16 shows.
 pub fn put(out: &mut [u8], n: usize, small: Set, whole: Set)
     requires { n * (set_length + set_length) + (set_length + set_length) ≤ length out.old }
     ensures { (C : List Community) (x rest : List ℕ) → out.old ≡ listing_bytes C ++ x ++ rest → length C ≡ n → length x ≡ set_length + set_length
@@ -38,13 +38,7 @@ pub fn put(out: &mut [u8], n: usize, small: Set, whole: Set)
 fn roots(entries: &[u32], used: usize) -> usize
     ensures { result ≡ length (root_slots entries.now used) }
 {
-    let mut n = 0;
-    for i in 0..used {
-        if joining::is_root(entries, i) {
-            n += 1;
-        }
-    }
-    n
+    (0..used).filter(|i| joining::is_root(entries, *i)).count()
 }
 
 // Writes what stands at the ends of the used slots, by smallest clique.
@@ -52,21 +46,15 @@ fn put_roots(tables: View, used: usize, out: &mut [u8])
     requires { length (listing_bytes (listed tables.entries.now tables.smallest.now tables.unions.now used)) ≤ length out.old }
     ensures { out.new ≡ written accepted (listing_bytes (listed tables.entry.entries.now tables.entry.smallest.now tables.entry.unions.now used)) out.old }
 {
-    let mut n = 0;
-    for i in 0..used {
-        if joining::is_root(tables.entries, i) {
-            put(
-                out,
-                n,
-                sets::at(tables.smallest, i),
-                sets::at(tables.unions, i),
-            );
-            n += 1;
-        }
+    let ends = (0..used).filter(|i| joining::is_root(tables.entries, *i));
+    for (n, i) in ends.enumerate() {
+        let small = sets::at(tables.smallest, i);
+        put(out, n, small, sets::at(tables.unions, i));
     }
 }
 
-// The listing of what stands at the ends of the used slots: 16 where the output is too short for it, else its bytes and the number of communities.
+// The listing of what stands at the ends of the used slots: 16 where the output is too short for it, else its bytes and the number of communities. A view
+// and any number of slots will do, so that no list of slots is asked for.
 pub fn list_roots(tables: View, used: usize, out: &mut [u8]) -> Answer
     ensures { WritesListing (listed tables.entry.entries.now tables.entry.smallest.now tables.entry.unions.now used) out.old result out.new }
 {

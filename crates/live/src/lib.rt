@@ -13,12 +13,13 @@ pub use dialogue::run;
 use slots::Lent;
 use states::State;
 
-// What goes from line to line: the parts typed so far, the tables and the journal of the steps, their state, and whether they have been started with all parts.
+// What goes from line to line: the clique size, the parts typed so far, the tables and the journal of the steps, and their state once they have been
+// started with all parts.
 #[derive(Drop)]
-struct Session<'a> {
+struct Session<'a, 't> {
+    k: usize,
     parts: &'a mut [u8],
-    tables: Lent<'a>,
+    tables: &'a mut Lent<'t>,
     journal: &'a mut [u64],
-    state: State,
-    started: bool,
+    state: Option<State>,
 }

@@ -1,7 +1,6 @@
 // What a typed link says.
-use journal::Link;
 use report::find;
-use sheet::part_count;
+use sequential::Link;
 
 // Why a line is no link of the parts typed so far: it names another, or the weight is no number up to 65,535.
 #[derive(Clone, Copy)]
@@ -11,7 +10,7 @@ pub enum WrongLink<'a> {
 }
 
 fn part<'a>(name: &'a [u8], parts: &[u8]) -> Result<usize, WrongLink<'a>> {
-    find(parts, name, part_count(parts)).ok_or(WrongLink::Unknown(name))
+    find(parts, name).ok_or(WrongLink::Unknown(name))
 }
 
 // `link NAME NAME WEIGHT`, the lower part first. A part linked with itself is left to the step, which refuses it.

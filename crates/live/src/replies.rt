@@ -26,6 +26,7 @@ pub fn commands(rt: &impl Print) -> io::Result<()> {
 }
 
 // A refusal of a step after a link of this weight. 8 and 19 are about the links typed before.
+// The weight is 0 where there is no link: only `Rising` tells it, and then there is one.
 pub fn refused(rt: &impl Print, fault: Fault, last: usize) -> io::Result<()> {
     print!(rt; "refused {}: ", u8::from(fault))?;
     match fault {

@@ -5,10 +5,10 @@ use crate::links::{WrongLink, typed_link};
 use crate::replies::{count, refused, say_of};
 use answers::Fault;
 use console::Counted;
-use journal::Link;
-use report::{Listing, families_now, name};
-use sequential::Stepped;
+use report::{Listing, families, name};
+use sequential::{Link, Stepped};
 use sheet::part_count;
+use states::State;
 use std::io;
 
 // The link taken back, and how many remain.
@@ -18,43 +18,32 @@ fn taken(rt: &impl Print, parts: &[u8], link: Link, links: usize) -> io::Result<
     println!(rt; " taken back, {}", Counted(links, "link"))
 }
 
-impl Session<'_> {
-    // A start with all parts where there has been none: 4 where there is no part. No link is lost, as parts come only while there is none. Answers whether
-    // the steps are started.
-    pub fn start(&mut self, rt: &impl Print) -> io::Result<bool> {
-        if self.started {
-            return Ok(true);
-        }
+impl Session<'_, '_> {
+    // The state of the steps with all parts, which are started where they have not been. None where they cannot be, as is told: 4 where there is no part.
+    // No link is lost, as parts come only while there is none. Never inlined: its states would lie under a listing.
+    #[inline(never)]
+    fn started(&mut self, rt: &impl Print) -> io::Result<Option<State>> {
         let before = self.state;
+        if before.is_some() {
+            return Ok(before);
+        }
         let p = part_count(self.parts);
-        let Stepped { answer, state } = sequential::start(
-            p,
-            before.k,
-            &mut self.tables,
-            self.journal,
-        );
+        let Stepped { answer, state } = sequential::start(p, self.k, self.tables, self.journal);
         match answer {
             Ok(_) => {
-                self.state = state;
-                self.started = true;
-                Ok(true)
+                self.state = Some(state);
+                Ok(Some(state))
             }
             Err(refusal) => {
                 refused(rt, refusal.fault, 0)?;
-                Ok(false)
+                Ok(None)
             }
         }
     }
 
-    fn insert(&mut self, rt: &impl Print, link: Link) -> io::Result<()> {
-        let before = self.state;
-        let Stepped { answer, state } = sequential::insert(
-            before,
-            &mut self.tables,
-            self.journal,
-            link,
-        );
-        self.state = state;
+    fn insert(&mut self, rt: &impl Print, before: State, link: Link) -> io::Result<()> {
+        let Stepped { answer, state } = sequential::insert(before, self.tables, self.journal, link);
+        self.state = Some(state);
         match answer {
             Ok(_) => count(rt, state.links, "link"),
             Err(refusal) => refused(rt, refusal.fault, before.last),
@@ -63,8 +52,11 @@ impl Session<'_> {
 
     // `link NAME NAME WEIGHT`: one link more.
     pub fn link(&mut self, rt: &impl Print, line: &[u8]) -> io::Result<()> {
+        let Some(state) = self.started(rt)? else {
+            return Ok(());
+        };
         match typed_link(line, self.parts) {
-            Ok(link) => self.insert(rt, link),
+            Ok(link) => self.insert(rt, state, link),
             Err(WrongLink::Unknown(name)) => say_of(rt, "no part is called ", name),
             Err(WrongLink::Weight) => refused(rt, Fault::WeightForm, 0),
         }
@@ -72,40 +64,37 @@ impl Session<'_> {
 
     // `back`: the last link taken back.
     pub fn back(&mut self, rt: &impl Print) -> io::Result<()> {
-        let before = self.state;
+        let Some(before) = self.started(rt)? else {
+            return Ok(());
+        };
         let last = journal::at(self.journal, journal::one_less(before.links));
-        let Stepped { answer, state } = sequential::take_back(
-            before,
-            &mut self.tables,
-            self.journal,
-        );
-        self.state = state;
+        let Stepped { answer, state } = sequential::take_back(before, self.tables, self.journal);
+        self.state = Some(state);
         match answer {
-            Ok(_) => taken(rt, self.parts, Link::from(last), state.links),
+            Ok(_) => taken(rt, self.parts, journal::link_of(last), state.links),
             Err(refusal) => refused(rt, refusal.fault, before.last),
         }
     }
 
     // The space is lent as an array, whose length its type says: the checker would count to it.
-    fn list_into(&self, rt: &impl Print, out: &mut [u8; LISTING_SPACE]) -> io::Result<()> {
-        let state = self.state;
+    fn list_into(
+        &self,
+        rt: &impl Print,
+        state: State,
+        out: &mut [u8; LISTING_SPACE],
+    ) -> io::Result<()> {
         match sequential::listing_now(state, self.tables.view(), out) {
-            Ok(n) => families_now(
-                rt,
-                Listing {
-                    sheet: self.parts,
-                    k: state.k,
-                    out,
-                    n,
-                },
-            ),
+            Ok(n) => families(rt, Listing::new(self.parts, state.k, out, n), ""),
             Err(refusal) => refused(rt, refusal.fault, state.last),
         }
     }
 
     // `list`: the families of the links so far.
-    pub fn list(&self, rt: &impl Print) -> io::Result<()> {
+    pub fn list(&mut self, rt: &impl Print) -> io::Result<()> {
+        let Some(state) = self.started(rt)? else {
+            return Ok(());
+        };
         let mut out = [0u8; LISTING_SPACE];
-        self.list_into(rt, &mut out)
+        self.list_into(rt, state, &mut out)
     }
 }

@@ -3,14 +3,16 @@
 // A made sheet: its links pair by pair, each put in its place among those so far at the start of three lent lists, and the sheet of names and a weight for
 // each pair written.
 ghost use Rattle.std.specs.Prelude.{◌≡◌, ◌≤◌, length};
-ghost use Rattle.link_order.specs.Lent.{as_link, link_lists_of, SameLinks};
+ghost use Rattle.checks.specs.Model.{as_link};
+ghost use Rattle.link_order.specs.Lent.{link_lists_of, SameLinks};
 ghost use Rattle.sheet_writer.specs.Writing.{WriteMeets};
 ghost use Rattle.made.specs.Made.{weighed, weight_at, made_network};
 ghost use Rattle.made.specs.Model.{pair_at, is_pair, PairMeets, LinksStand};
 ghost use Rattle.sheet_reader.specs.Reading.{HaveLength};
 
 use answers::Answer;
-use link_order::{Link, Links};
+use checks::{Link, pairs};
+use link_order::Links;
 use sheet::Network;
 
 // Whether number i stands for a pair of parts below p: one loop over the numbers below 64 * 64 takes the pairs of at most 64 parts by lower then higher part.
@@ -18,12 +20,14 @@ use sheet::Network;
 pub fn is_pair(p: usize, i: usize) -> bool
     ensures { result ≡ is_pair p (pair_at i) }
 {
-    i / 64 < i % 64 && i % 64 < p
+    let (low, high) = pairs::ends(i);
+    low < high && high < p
 }
 
 // Puts the link of a pair among the first m of three lists, as link_order has them; a pair of weight 0 has none. Answers how many links there are then:
 // m where nothing was written, since the weight is 0 or a list has no room.
-pub fn put_pair(links: &mut Links, m: usize, link: Link) -> usize
+// m again, and no Option, where there is no room: `PairMeets` says so.
+pub fn put_pair(links: &mut Links, m: usize, link: Link<u16>) -> usize
     ensures lent { SameLinks links.old links.new }
     ensures put { PairMeets (as_link link) (link_lists_of links.old) m result (link_lists_of links.new) }
 {
@@ -44,12 +48,17 @@ fn put_pairs(p: usize, table: &[u16], links: &mut Links) -> usize
     ensures bounds { HaveLength result links.new }
 {
     let mut m = 0;
+    // By number: it stands for the pair.
     for i in 0..4096 {
         if is_pair(p, i) {
-            let low = (i / 64) as u16;
-            let high = (i % 64) as u16;
-            let weight = table[i];
-            m = put_pair(links, m, Link { low, high, weight });
+            // Parts below 64: the casts lose nothing, and a TryFrom would have to be unwrapped.
+            let (low, high) = pairs::ends(i);
+            let link = Link {
+                low: low as u16,
+                high: high as u16,
+                weight: table[i],
+            };
+            m = put_pair(links, m, link);
         }
     }
     m

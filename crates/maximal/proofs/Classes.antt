@@ -5,7 +5,6 @@ use mathlib.Core.Bool.{true, false}
 use mathlib.Core.List.Memᴰ
 use mathlib.Core.List.{List, []}
 use Prim.Native.Nat.{ℕ, ◌≤◌, ◌<◌, ◌^◌}
-use native.Mathlib.Decide.{dec_lt}
 use native.Mathlib.Omega.{arith}
 use lib.Dec.{leb}
 use lib.ListN.{length}
@@ -43,14 +42,6 @@ module _ (L : List Link) (p k r c : ℕ) (R T S : List ℕ) (links : legal p L �
 
   pub too_many : r < c → leb (length (maximals L p k)) r ≡ false
   too_many h = lt-leb (length (maximals L p k)) r (omega (arith, filled_many r c T S M filled h, count))
-
-  -- what 15 tests of the count it tests of the maximal cliques
-  pub count_tells : leb c r ≡ leb (length (maximals L p k)) r
-  count_tells = pick (dec_lt r c)
-    where
-      pick : Dec (r < c) → leb c r ≡ leb (length (maximals L p k)) r
-      pick (yes h) = lt-leb c r h ∙ sym (too_many h)
-      pick (no h) = let few : c ≤ r = omega arith in le-leb c r few ∙ sym (le-leb (length (maximals L p k)) r (omega (arith, filled_few r c T S M filled few, count)))
 
   -- ---- the classes, where the three tables have the room
 

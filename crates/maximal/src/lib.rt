@@ -31,8 +31,9 @@ pub fn list(
         → RunLists (leb (length (maximals L p k)) room) L p k out.old result out.new }
     ensures entries_kept { tables.new.entries.now ≡ tables.old.entries.now }
 {
-    let count = maximal_search::take_maximal(neighbours, tables.sets, room, p, k);
-    answers::require(count <= room, Fault::Slots, 0)?;
+    let count = maximal_search::take_maximal(neighbours, tables.sets, room, p, k).ok_or(
+        Fault::Slots,
+    )?;
     let classes = overlaps::classes(tables.sets, tables.smallest, tables.unions, k, count);
     // with no joining entries each row is its own end
     let ends = View {

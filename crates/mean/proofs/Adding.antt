@@ -16,8 +16,7 @@ use Rattle.percolation.proofs.Sums.{weight_none, weight_first, weight_append}
 use Rattle.sheet.specs.Sheet.{links, link_of, links_of}
 use Rattle.runs.proofs.InSheet.{sheet_given}
 use Rattle.runs.proofs.LinkList.{first_more}
-use Rattle.mean.specs.declared.Tally.{Tally}
-use Rattle.mean.specs.Model.{counts, Adds}
+use Rattle.mean.specs.Model.{counts}
 
 -- w and n are the sum of the weights and the number of the counted links among the first j of the sheet s, and small enough for a machine word
 pub record Adding (f : Link → Bool) (s : List ℕ) (j w n : ℕ) : Type 0 where
@@ -68,13 +67,6 @@ unfolding counts
 counts_at k C l x s r e d f = f ∙ ap₂ has e d
 
 -- the code asks by the ends alone
-pub counts_ends : (k : ℕ) (C s : List ℕ) (j : ℕ) (r : Link) (t b : Bool) → r ≡ link_of s j → t ≡ counts k C (link r.low r.high 0) → t ≡ b
+pub counts_ends : (k : ℕ) (C s : List ℕ) (j : ℕ) (r : Link) (t b : Bool) → r ≡ link_of s j → t ≡ counts k C r → t ≡ b
     → counts k C (link_of s j) ≡ b
-unfolding counts
 counts_ends k C s j r t b e c d = ap (counts k C) (sym e) ∙ sym c ∙ d
-
--- all of the first n links
-pub adding_all : (f : Link → Bool) (s : List ℕ) (j n : ℕ) → j ≡ n → (a : Tally) → Adding f s j a.sum a.links → Adds a (keep f (take n (links_of s)))
-adding_all f s j n e a h =
-    let K : keep f (take j (links_of s)) ≡ keep f (take n (links_of s)) = ap (λ (i : ℕ). keep f (take i (links_of s))) e in
-    record { sum = h.sum ∙ ap weight_sum K; links = h.links ∙ ap length K }

@@ -1,8 +1,8 @@
 -- The call by its parts: 13 and the checks before it, refused before 15, from 15 on, and the links at t as the tables count them. Assumes nothing.
 use mathlib.Core.Path.{◌≡◌, refl, sym, ap, ap₂, ◌∙◌, subst, subst⁻¹}
-use mathlib.Core.Bool.{Bool, true, false}
+use mathlib.Core.Bool.{Bool, true}
 use mathlib.Core.List.{List}
-use Prim.Native.Nat.{ℕ, ◌≤◌, ◌/◌, ◌%◌}
+use Prim.Native.Nat.{ℕ, ◌≤◌, ◌<◌, ◌/◌, ◌%◌}
 use native.Mathlib.Omega.{arith}
 use lib.Dec.{eqb}
 use lib.ListN.{length, take, drop}
@@ -23,13 +23,14 @@ use Rattle.percolation.proofs.Mean.{mean_exact, family_at}
 use Rattle.checks.specs.Neighbours.{Neighbours}
 use Rattle.slots.specs.Tables.{Tables, root_of}
 use Rattle.slots.specs.Model.{find}
+use Rattle.slots_theory.specs.Shows.{Shows}
 use Rattle.slots_theory.proofs.Communal.{member_found}
 use Rattle.clique_taking.proofs.Inserted.{cliques_family}
 use Rattle.sheet.specs.Answers.{SheetSaid, holds, faulty, sheet_say}
 use Rattle.sheet.specs.Sheet.{parts, links_of, check_sheet}
 use Rattle.sheet.proofs.Said.{said_faulty, said_holds}
 use Rattle.sheet.proofs.Sound.{sheet_legal}
-use Rattle.runs.specs.Lent.{check_call, cleared, left}
+use Rattle.runs.specs.Lent.{check_call, cleared}
 use Rattle.runs.specs.Model.{rows_with, took_links}
 use Rattle.runs.specs.OnSheet.{slots_for}
 use Rattle.runs.proofs.Admitted.{call_sheet, call_k}
@@ -102,11 +103,17 @@ module _ (s : List ℕ) (k : ℕ) (T : Tables) (ok : check_call s k T ≡ accept
   legals : legal (parts s) (take n (links_of s)) ≡ true
   legals = first_legal s sheet n L refl
 
+  shows : Shows p k (cliques L p k) U
+  shows = first_shown s k T ok n fit X W U none zero e
+
+  -- a slot of the clique is found
+  pub family_found : find U.sets U.used (out (lowest c) c) < U.used
+  family_found = (member_found p k (cliques L p k) U shows (omega (arith, two)) (cliques_family L p k) c m (find U.sets U.used (out (lowest c) c)) refl).0
+
   pub family_counted : (i r : ℕ) → i ≡ find U.sets U.used (out (lowest c) c) → r ≡ root_of U.entries i → (C : List ℕ)
       → Covered U.sets U.entries U.used r C → (a : Tally) → Adds a (keep (counts k C) (take n (links_of s)))
       → Adds a (keep (in_family k (cliques (take n (links_of s)) (parts s) k) c) (take n (links_of s)))
   family_counted i r f g C v a d =
-      let shows = first_shown s k T ok n fit X W U none zero e in
       let b = member_found p k (cliques L p k) U shows (omega (arith, two)) (cliques_family L p k) c m i f in
       subst (Adds a) (keep_same (counts k C) (in_family k (cliques L p k) c) L (λ l x.
       covered_is p k L legals (parts_width s sheet) two U shows c m i b.0 b.1 r g l x C v)) d
@@ -145,6 +152,12 @@ module _ (s : List ℕ) (k t c : ℕ) (T : Tables) (ok : check_clique s k t c T 
 pub clique_viewed : (s : List ℕ) (k t c : ℕ) (x : SheetSaid) (T U : Tables) → T ≡ U → x ≡ sheet_say (check_clique s k t c T) s
     → x ≡ sheet_say (check_clique s k t c U) s
 clique_viewed s k t c x T U e said = said ∙ ap (λ (X : Tables). sheet_say (check_clique s k t c X) s) e
+
+-- the sheet that is given back is admitted, with the tables that were viewed
+pub clique_admitted : (s b : List ℕ) (k t c p m : ℕ) (T U : Tables) → T ≡ U → b ≡ s → holds p m ≡ sheet_say (check_clique s k t c T) s
+    → check_clique b k t c U ≡ accepted
+clique_admitted s b k t c p m T U e f said =
+    ap (λ (x : List ℕ). check_clique x k t c U) f ∙ (said_holds _ s p m (clique_viewed s k t c (holds p m) T U e said)).0
 
 -- ---- the run: 15, or the mean
 

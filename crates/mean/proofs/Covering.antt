@@ -66,9 +66,6 @@ module _ (sets es : List ℕ) (r : ℕ) where
           ∙ or-false (any (stands_together sets es r q z) (below i)));
     }
 
-  pub covered_all : (C : List ℕ) (i n : ℕ) → i ≡ n → Covered sets es i r C → Covered sets es n r C
-  covered_all C i n e c = subst (λ (m : ℕ). Covered sets es m r C) e c
-
 -- ---- a link of a legal list
 
 -- both its ends are a clique

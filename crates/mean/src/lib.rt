@@ -1,15 +1,16 @@
 #![tactic(auto)]
 
 // The mean link weight of a family of a sheet, by the tables of the sequential run.
-ghost use Rattle.std.specs.Prelude.{◌≡◌, true, ◌≤◌, length, take};
+ghost use Rattle.std.specs.Prelude.{◌≡◌, true, ◌≤◌, length, take, IfOk};
 ghost use Rattle.answers.specs.Verdict.{accepted};
 ghost use Rattle.sets.specs.Lists.{◌∈◌, keep};
 ghost use Rattle.sets.specs.Value.{num};
-ghost use Rattle.percolation.specs.Links.{link, cliques, slots};
+ghost use Rattle.checks.specs.Model.{as_link};
+ghost use Rattle.percolation.specs.Links.{cliques, slots};
 ghost use Rattle.percolation.specs.Steps.{enough};
 ghost use Rattle.percolation.specs.Mean.{in_family};
-ghost use Rattle.sheet.specs.Answers.{sheet_says, sheet_say};
-ghost use Rattle.sheet.specs.Sheet.{parts, links, links_of, check_sheet};
+ghost use Rattle.sheet.specs.Answers.{checked_says, sheet_say};
+ghost use Rattle.sheet.specs.Sheet.{parts, links, links_of};
 ghost use Rattle.slots.specs.Lent.{tables_of, tables_in, SameLent};
 ghost use Rattle.runs.specs.Lent.{check_call};
 ghost use Rattle.runs.specs.OnSheet.{slots_for};
@@ -17,11 +18,13 @@ ghost use Rattle.mean.specs.Answers.{is_clique_at, check_clique, mean_at, MeanRu
 ghost use Rattle.mean.specs.Model.{Gained, Covered, counts, Adds};
 
 use answers::{Fault, Refusal};
+use checks::Link;
 use sets::{Rows, Set};
-use sheet::Counts;
-use slots::{Lent, View};
+use sheet::Checked;
+use slots::{Lent, SlotList, View};
 
-// The sum of the weights of a family's links, their number, the whole quotient and the remainder.
+// The sum of the weights of a family's links, their number, the whole quotient and the remainder. Sum and number stand beside the others and not in a
+// `Tally`: `mean_says` names each of the four.
 #[derive(Clone, Copy, Debug, PartialEq, Eq)]
 pub struct FamilyMean {
     pub sum: usize,
@@ -31,6 +34,7 @@ pub struct FamilyMean {
 }
 
 // Weights of links added up, and how many links they are.
+// Not ranking's `Mean`, whose numbers have 32 bits, so that products of two fit a u64.
 #[derive(Clone, Copy, Debug, PartialEq, Eq)]
 pub struct Tally {
     pub sum: usize,
@@ -40,26 +44,28 @@ pub struct Tally {
 // ---- the checks before 15
 
 // Whether a set is a k-clique of the links of a checked sheet that weigh t or more.
-fn is_clique_at(sheet: &[u8], counts: Counts, k: usize, t: u16, clique: Set) -> bool
-    requires { (check_sheet sheet.now ≡ accepted) × (counts.parts ≡ parts sheet.now) × (counts.links ≡ links sheet.now) }
-    ensures { result ≡ is_clique_at sheet.now k t (num clique) }
+fn is_clique_at(sheet: Checked, k: usize, t: u16, clique: Set) -> bool
+    ensures { result ≡ is_clique_at sheet.entry.bytes.now k t (num clique) }
 {
-    let first = runs::heavy(sheet, counts.links, t);
+    let first = runs::heavy(sheet, t);
     let rows = runs::rows_of(sheet, first);
-    checks::is_clique(&rows, counts.parts, k, clique)
+    checks::is_clique(&rows, sheet.counts.parts, k, clique)
 }
 
-// The sheet's checks, 10 and 11, then 13, at t. Where they pass, the sheet's part count and link count.
-fn admit(sheet: &[u8], k: usize, t: u16, clique: Set, tables: View) -> Result<Counts, Refusal>
-    ensures { sheet_says result ≡ sheet_say (check_clique sheet.now k t (num clique) (tables_in tables.entry 0)) sheet.now }
+// The sheet's checks, 10 and 11, then 13, at t. Where they pass, the sheet with its counts.
+fn admit<'a>(
+    sheet: &'a [u8],
+    k: usize,
+    t: u16,
+    clique: Set,
+    tables: View,
+) -> Result<Checked<'a>, Refusal>
+    ensures answer { checked_says result ≡ sheet_say (check_clique sheet.now k t (num clique) (tables_in tables.entry 0)) sheet.now }
+    ensures same { IfOk result (λ c. c.bytes ≡ sheet.entry) }
 {
-    let counts = runs::admit(sheet, k, tables)?;
-    answers::require(
-        is_clique_at(sheet, counts, k, t, clique),
-        Fault::NoClique,
-        0,
-    )?;
-    Ok(counts)
+    let checked = runs::admit(sheet, k, tables)?;
+    answers::require(is_clique_at(checked, k, t, clique), Fault::NoClique, 0)?;
+    Ok(checked)
 }
 
 // ---- the links of a family
@@ -88,27 +94,27 @@ fn cover(tables: View, used: usize, r: usize) -> Rows
 }
 
 // Whether a link is counted: both its ends stand in one slot. For k 2 a slot has one part and a link is a clique, so that its lower end tells.
-fn is_counted(covered: &[u64], k: usize, low: usize, high: usize) -> bool
-    ensures { result ≡ counts k covered.now (link low high 0) }
+fn is_counted(covered: &[u64], k: usize, link: Link) -> bool
+    ensures { result ≡ counts k covered.now (as_link link) }
 {
-    let row = sets::at(covered, low);
+    let row = sets::at(covered, link.low);
     if k == 2 {
-        sets::has(row, low)
+        sets::has(row, link.low)
     } else {
-        sets::has(row, high)
+        sets::has(row, link.high)
     }
 }
 
-// The counted links among the first n of a checked sheet.
-fn count_links(sheet: &[u8], n: usize, k: usize, covered: &[u64]) -> Tally
-    requires { (check_sheet sheet.now ≡ accepted) × (n ≤ links sheet.now) }
-    ensures { Adds result (keep (counts k covered.now) (take n (links_of sheet.now))) }
+// The counted links among the first n of a checked sheet. Two sums in one pass, and so no `sum` of a chain.
+fn count_links(sheet: Checked, n: usize, k: usize, covered: &[u64]) -> Tally
+    requires { n ≤ links sheet.bytes.now }
+    ensures { Adds result (keep (counts k covered.now) (take n (links_of sheet.entry.bytes.now))) }
 {
     let mut all = Tally { sum: 0, links: 0 };
     for j in 0..n {
-        let l = sheet::link(sheet, j);
-        if is_counted(covered, k, l.low, l.high) {
-            all.sum += l.weight;
+        let l = sheet.link(j);
+        if is_counted(covered, k, l) {
+            all.sum += usize::from(l.weight);
             all.links += 1;
         }
     }
@@ -117,40 +123,41 @@ fn count_links(sheet: &[u8], n: usize, k: usize, covered: &[u64]) -> Tally
 
 // The links in the family of a k-clique of the first n links of an admitted sheet, in tables that it leaves anyhow: the first links into the tables, the
 // slots of the family, then the links.
-fn family_links(sheet: &[u8], n: usize, k: usize, clique: Set, tables: &mut Lent) -> Tally
-    requires { (check_call sheet.now k (tables_of tables.old 0) ≡ accepted) × (n ≤ links sheet.now)
-        × (enough (length tables.old.entries.now) (slots (parts sheet.now) k (cliques (take n (links_of sheet.now)) (parts sheet.now) k)) ≡ true)
-        × (num clique ∈ cliques (take n (links_of sheet.now)) (parts sheet.now) k) }
+fn family_links(sheet: Checked, n: usize, k: usize, clique: Set, tables: &mut Lent) -> Tally
+    requires { (check_call sheet.bytes.now k (tables_of tables.old 0) ≡ accepted) × (n ≤ links sheet.bytes.now)
+        × (enough (length tables.old.entries.now) (slots (parts sheet.bytes.now) k (cliques (take n (links_of sheet.bytes.now)) (parts sheet.bytes.now) k)) ≡ true)
+        × (num clique ∈ cliques (take n (links_of sheet.bytes.now)) (parts sheet.bytes.now) k) }
     ensures lent { SameLent tables.old tables.new }
-    ensures tally { Adds result (keep (in_family k (cliques (take n (links_of sheet.now)) (parts sheet.now) k) (num clique)) (take n (links_of sheet.now))) }
+    ensures tally { Adds result (keep (in_family k (cliques (take n (links_of sheet.entry.bytes.now)) (parts sheet.entry.bytes.now) k) (num clique))
+        (take n (links_of sheet.entry.bytes.now))) }
 {
     runs::clear(tables);
     let mut rows = sets::no_rows();
-    let used = runs::take_links(sheet, &mut rows, tables, 0, k, 0, n);
-    let view = tables.view();
-    let i = slots::slot_of(view.sets, used, clique);
+    let slots = &mut SlotList { tables, used: 0 };
+    runs::take_links(sheet, &mut rows, slots, k, 0, n);
+    let i = slots.slot_of(clique).unwrap();
+    let view = slots.tables.view();
     let r = joining::root(view.entries, i);
-    let covered = cover(view, used, r);
+    let covered = cover(view, slots.used, r);
     count_links(sheet, n, k, &covered)
 }
 
 // The mean in an admitted sheet: 15, by the rows of the links alone, then the links of the family. Leaves the tables anyhow.
 fn run(
-    sheet: &[u8],
-    counts: Counts,
+    sheet: Checked,
     k: usize,
     t: u16,
     clique: Set,
     tables: &mut Lent,
 ) -> Result<FamilyMean, Refusal>
-    requires { (check_clique sheet.now k t (num clique) (tables_of tables.old 0) ≡ accepted) × (counts.parts ≡ parts sheet.now)
-        × (counts.links ≡ links sheet.now) }
+    requires { check_clique sheet.bytes.now k t (num clique) (tables_of tables.old 0) ≡ accepted }
     ensures lent { SameLent tables.old tables.new }
-    ensures run { MeanRuns (enough (length tables.old.entries.now) (slots_for sheet.now k t)) (mean_at sheet.now k t (num clique)) result }
+    ensures run { MeanRuns (enough (length tables.old.entries.now) (slots_for sheet.entry.bytes.now k t))
+        (mean_at sheet.entry.bytes.now k t (num clique)) result }
 {
-    let n = runs::heavy(sheet, counts.links, t);
+    let n = runs::heavy(sheet, t);
     let view = tables.view();
-    let fits = runs::has_slots(sheet, n, counts.parts, k, view.entries);
+    let fits = runs::has_slots(sheet, n, k, view.entries);
     answers::require(fits, Fault::Slots, 0)?;
     let all = family_links(sheet, n, k, clique, tables);
     Ok(FamilyMean {
@@ -173,8 +180,8 @@ pub fn of_family(
     ensures lent { SameLent tables.old tables.new }
     ensures meets { MeanMeets sheet.now k t (num clique) (tables_of tables.old 0) result (tables_of tables.new 0) }
 {
-    let counts = admit(sheet, k, t, clique, tables.view())?;
-    let mean = run(sheet, counts, k, t, clique, tables);
+    let checked = admit(sheet, k, t, clique, tables.view())?;
+    let mean = run(checked, k, t, clique, tables);
     runs::clear(tables);
     mean
 }

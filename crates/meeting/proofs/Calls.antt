@@ -6,7 +6,7 @@ use Prim.Native.Nat.{ℕ}
 use Rattle.std.specs.Prelude.{Option, Ok, Err}
 use Rattle.answers.specs.declared.Refusal.{Refusal}
 use Rattle.answers.specs.Faults.{number_of}
-use Rattle.answers.specs.Verdict.{Verdict, refused, unless}
+use Rattle.answers.specs.Verdict.{Verdict, accepted, refused, unless}
 use Rattle.answers.proofs.Laws.{last_go, then_stop, then_go}
 use Rattle.percolation.specs.Levels.{Meeting}
 use Rattle.slots.specs.Tables.{Tables}
@@ -58,3 +58,9 @@ module _ (s : List ℕ) (k a b : ℕ) (T : Tables) (fits : Bool) where
 -- what was said of a view of the tables is said of them
 pub pair_viewed : (s : List ℕ) (k a b : ℕ) (x : SheetSaid) (T U : Tables) → T ≡ U → x ≡ sheet_say (check_pair s k a b T) s → x ≡ sheet_say (check_pair s k a b U) s
 pair_viewed s k a b x T U e said = said ∙ ap (λ (X : Tables). sheet_say (check_pair s k a b X) s) e
+
+-- the sheet that is given back is admitted, with the tables that were viewed
+pub pair_admitted : (s z : List ℕ) (k a b p m : ℕ) (T U : Tables) → T ≡ U → z ≡ s → holds p m ≡ sheet_say (check_pair s k a b T) s
+    → check_pair z k a b U ≡ accepted
+pair_admitted s z k a b p m T U e f said =
+    ap (λ (x : List ℕ). check_pair x k a b U) f ∙ (said_holds _ s p m (pair_viewed s k a b (holds p m) T U e said)).0

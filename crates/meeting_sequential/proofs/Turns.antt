@@ -1,6 +1,6 @@
 -- A meeting by the sequential run, link by link: two slots end at the same one exactly from the link on at which their cliques are joined, so that the
 -- link is the one whose weight they meet at. Assumes nothing.
-use mathlib.Core.Path.{◌≡◌, sym, ap, ◌∙◌, subst, subst⁻¹}
+use mathlib.Core.Path.{◌≡◌, refl, sym, ap, ◌∙◌, subst, subst⁻¹}
 use mathlib.Core.Logic.{◌⊎◌, inl, inr, ◌↔◌}
 use mathlib.Core.Bool.{Bool, true, false}
 use mathlib.Core.List.Memᴰ
@@ -52,9 +52,8 @@ module _ (s : List ℕ) (x : ℕ) where
       absurd (Memᴰ.not-nil (subst (λ (N : List Link). l ∈ N) (drop_of_length-le (links_of s) {i = j} (omega (arith, e, links_length s))) m))
 
   -- link i, as the code reads it, and what the code says of its ends
-  module _ (i : ℕ) (h : i < links s) (r : Link) (e : r ≡ link_of s i) (t : Bool) (both : t ≡ inside x (link r.low r.high 0)) where
+  module _ (i : ℕ) (h : i < links s) (r : Link) (e : r ≡ link_of s i) (t : Bool) (both : t ≡ inside x r) where
     inside_is : inside x (link_at (links_of s) i) ≡ t
-    unfolding inside
     inside_is =
         ap (inside x) (link_at_lem s i (link 0 0 0) h ∙ sym e) ∙ sym both
 
@@ -107,6 +106,12 @@ module _ (s : List ℕ) (ok : check_sheet s ≡ accepted) (k : ℕ) (two : 2 ≤
     slot = member_found p k (F n) T t.shows (omega (arith, two)) (cliques_family (take n L) p k) a t.first i e;
     other = member_found p k (F n) T t.shows (omega (arith, two)) (cliques_family (take n L) p k) b t.second j f;
   }
+
+  -- slots of both are found
+  pub both_found : (a b n : ℕ) (R : List ℕ) (T : Tables) → Taken s k a b n R T
+      → (find T.sets T.used (out (lowest a) a) < T.used) × (find T.sets T.used (out (lowest b) b) < T.used)
+  both_found a b n R T t =
+      let g = turn_begin a b n R T t (find T.sets T.used (out (lowest a) a)) (find T.sets T.used (out (lowest b) b)) refl refl in (g.slot.0, g.other.0)
 
   module _ (a b n : ℕ) (R : List ℕ) (T : Tables) (i j : ℕ) (t : Turn s k a b n R T i j) where
     decides : (root_of T.entries i ≡ root_of T.entries j) ↔ (joined k (F n) a b ≡ true)

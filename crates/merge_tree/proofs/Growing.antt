@@ -2,7 +2,7 @@
 use mathlib.Core.Path.{◌≡◌, refl, sym, ap, ◌∙◌}
 use mathlib.Core.Bool.{Bool, true}
 use mathlib.Core.List.{List}
-use Prim.Native.Nat.{ℕ, ◌*◌, ◌/◌, ◌≤◌}
+use Prim.Native.Nat.{ℕ, ◌*◌, ◌≤◌}
 use native.Mathlib.Omega.{arith}
 use lib.Dec.{leb}
 use lib.ListN.{length, take}
@@ -29,7 +29,7 @@ use Rattle.runs.proofs.Admitted.{call_sheet, call_k, call_level, call_past}
 use Rattle.runs.proofs.Calls.{run_whole, slots_all}
 use Rattle.runs.proofs.Left.{level_kept}
 use Rattle.merge_tree.specs.OnSheet.{tree_of}
-use Rattle.tree_lines.specs.LineModel.{line_length}
+use Rattle.tree_lines.specs.LineModel.{line_length, line_count}
 use Rattle.tree_lines.proofs.LinePlaces.{tree_length}
 
 -- the call would be let through with the lent tables as they are later
@@ -52,34 +52,31 @@ pub told_slots : (s : List ℕ) (k : ℕ) (T V : Tables) → V ≡ T → (m : �
     → f ≡ enough (length V.entries) (slots (parts s) k (cliques (take m (links_of s)) (parts s) k)) → f ≡ enough (length T.entries) (slots_of s k)
 told_slots s k T V v m all f e = slots_all s k T.entries m all f (rw v at e)
 
--- room for n lines, each as long as the code says
-module _ (s : List ℕ) (k : ℕ) (old : List ℕ) (n size : ℕ) (lines : n ≡ length (tree_of s k)) (long : size ≡ line_length) where
+-- room for n lines, where the output has room for as many as the code says
+module _ (s : List ℕ) (k : ℕ) (old : List ℕ) (n room : ℕ) (lines : n ≡ length (tree_of s k)) (long : room ≡ line_count old) where
   whole : length (tree_bytes (tree_of s k)) ≡ n * line_length
   whole = tree_length (tree_of s k) ∙ ap (λ (x : ℕ). x * line_length) (sym lines)
 
-  fitting : length old / size ≡ length old / line_length
-  fitting = ap (λ (x : ℕ). length old / x) long
-
   -- 16
-  grow_test : unless (leb n (length old / size)) 16 0 ≡ check_out (tree_bytes (tree_of s k)) (length old)
+  grow_test : unless (leb n room) 16 0 ≡ check_out (tree_bytes (tree_of s k)) (length old)
   unfolding check_out
-  grow_test = ap (λ (t : Bool). unless t 16 0) (iff (leb n (length old / size)) (leb (length (tree_bytes (tree_of s k))) (length old)) to fro)
+  grow_test = ap (λ (t : Bool). unless t 16 0) (iff (leb n room) (leb (length (tree_bytes (tree_of s k))) (length old)) to fro)
     where
-      to : leb n (length old / size) ≡ true → leb (length (tree_bytes (tree_of s k))) (length old) ≡ true
-      to e = le-leb (length (tree_bytes (tree_of s k))) (length old) (omega (arith, whole, fitting, leb-true n (length old / size) e))
+      to : leb n room ≡ true → leb (length (tree_bytes (tree_of s k))) (length old) ≡ true
+      to e = le-leb (length (tree_bytes (tree_of s k))) (length old) (omega (arith, whole, long, leb-true n room e))
 
-      fro : leb (length (tree_bytes (tree_of s k))) (length old) ≡ true → leb n (length old / size) ≡ true
-      fro e = le-leb n (length old / size) (omega (arith, whole, fitting, leb-true (length (tree_bytes (tree_of s k))) (length old) e))
+      fro : leb (length (tree_bytes (tree_of s k))) (length old) ≡ true → leb n room ≡ true
+      fro e = le-leb n room (omega (arith, whole, long, leb-true (length (tree_bytes (tree_of s k))) (length old) e))
 
-  pub grow_room : accepted ≡ unless (leb n (length old / size)) 16 0 → length (tree_bytes (tree_of s k)) ≤ length old
-  grow_room e = omega (arith, whole, fitting, leb-true n (length old / size) (unless_passed (leb n (length old / size)) 16 0 (sym e)))
+  pub grow_room : accepted ≡ unless (leb n room) 16 0 → length (tree_bytes (tree_of s k)) ≤ length old
+  grow_room e = omega (arith, whole, long, leb-true n room (unless_passed (leb n room) 16 0 (sym e)))
 
   module _ (fits : Bool) (enough-slots : fits ≡ true) where
-    pub grow_full : (f : Refusal) → refused (number_of f.fault) f.place ≡ unless (leb n (length old / size)) 16 0
+    pub grow_full : (f : Refusal) → refused (number_of f.fault) f.place ≡ unless (leb n room) 16 0
         → RunMeets fits (length (tree_of s k)) (tree_bytes (tree_of s k)) old (Err f) old
     grow_full f e =
         run_whole fits _ _ old (Err f) old enough-slots (writes_refused _ _ _ old (Err f) (number_of f.fault) f.place (sym (e ∙ grow_test)) refl)
 
-    pub grow_whole : accepted ≡ unless (leb n (length old / size)) 16 0 → (out : List ℕ) → out ≡ written accepted (tree_bytes (tree_of s k)) old
+    pub grow_whole : accepted ≡ unless (leb n room) 16 0 → (out : List ℕ) → out ≡ written accepted (tree_bytes (tree_of s k)) old
         → RunMeets fits (length (tree_of s k)) (tree_bytes (tree_of s k)) old (Ok n) out
     grow_whole e out f = run_whole fits _ _ old (Ok n) out enough-slots (writes_all _ _ _ old (Ok n) out (sym (e ∙ grow_test)) (ap counts lines) f)

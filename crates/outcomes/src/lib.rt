@@ -18,7 +18,7 @@ use sequential::Stepped;
 use sheet::Counts;
 use states::State;
 
-// What a call answers: number 0 with what it counts, or a refusal's number and place.
+// What a call answers: number 0 with what it counts, or a refusal's number and place. A number and no enum: C reads it so.
 #[repr(C)]
 #[derive(Clone, Copy, Debug, PartialEq, Eq)]
 pub struct Outcome {
@@ -67,6 +67,7 @@ pub fn counted(count: usize, parts: usize) -> Outcome
     }
 }
 
+// By its number, as C reads it.
 pub fn refused(number: u8, place: usize) -> Outcome
     ensures { result ≡ outcome number place 0 0 }
 {
@@ -93,7 +94,7 @@ impl From<Answer> for Outcome {
     fn from(answer: Answer) -> Outcome {
         match answer {
             Ok(n) => counted(n, 0),
-            Err(r) => Outcome::from(r),
+            Err(refusal) => Outcome::from(refusal),
         }
     }
 }
@@ -124,6 +125,7 @@ impl From<Met> for Outcome {
     }
 }
 
+// `as`, here and in `need_of`: C gets 64 bits, and u64 has no From<usize>.
 fn mean_of(outcome: Outcome, sum: usize, quotient: usize, remainder: usize) -> Mean
     ensures { result ≡ mean_outcome outcome sum quotient remainder }
 {

@@ -34,6 +34,7 @@ fn sweep(table: &mut [u64], k: usize, s: Set, end: usize, n: usize) -> usize
     ensures lower_bound { (end ≤ result) × (result ≤ n) }
 {
     let mut e = end;
+    // By index: rows of one table change places.
     for j in end..n {
         if k <= sets::count(sets::meet(s, sets::at(table, j))) + 1 {
             swap(table, e, j);

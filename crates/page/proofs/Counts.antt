@@ -1,22 +1,24 @@
 -- Lines tested one after the other, and the tests before that loop. Assumes nothing.
 use mathlib.Core.Path.{◌≡◌, refl, sym, ap, ap₂, ◌∙◌}
 use mathlib.Core.Bool.{Bool, true, false, ◌&&◌}
-use mathlib.Core.List.{List}
-use Prim.Native.Nat.{ℕ, zero, suc, ◌+◌, ◌-◌, ◌*◌, ◌%◌, ◌≤◌, ◌<◌, min}
+use mathlib.Core.List.{List, [], ◌∷◌, map}
+use Prim.Native.Nat.{ℕ, zero, suc, ◌+◌, ◌*◌, ◌%◌, ◌≤◌, ◌<◌, min}
 use native.Mathlib.Omega.{arith}
 use native.Mathlib.Numerals.{add-one}
 use lib.Dec.{eqb, leb}
 use lib.ListN.{length}
 use borrow.Author.Tests.{le-leb, lt-leb}
-use Rattle.std.specs.List.{list_all, range_with_len}
+use Rattle.std.specs.List.{list_all, range_with_len, sum_by}
+use Rattle.std.proofs.lemmas.List.FromFn.{length-range_with_len}
+use Rattle.std.proofs.lemmas.List.Sums.{sum_by-cons}
 use Rattle.sets.specs.Lists.{all, from, below}
 use Rattle.sets.specs.Sets.{full, sub, size}
 use Rattle.sets.specs.Value.{width}
 use Rattle.sets.proofs.Tests.{and_stop, and_go}
 use Rattle.percolation.specs.Tree.{line_length}
+use Rattle.percolation.specs.Weights.{sum}
 use Rattle.page.specs.Page.{rows_for, line_count, line_union, known, good_lines}
 use Rattle.page.specs.Model.{rows_from}
-use Rattle.page.proofs.Sizes.{rows_first, rows_none}
 
 -- ---- all of a list of numbers
 
@@ -56,28 +58,34 @@ module _ (p : ℕ) (b : List ℕ) where
 
 -- ---- rows counted
 
-module _ (b : List ℕ) (n : ℕ) where
-  -- `rows` of the first j lines are counted, and those of the others are to go
-  abbrev pub Counted : ℕ → ℕ → Type 0
-  Counted rows j = (j ≤ n) × (rows + rows_from b j (n - j) ≡ rows_from b 0 n) × (rows ≤ width * j)
+pub range_from : (a n : ℕ) → range_with_len a n ≡ from a n
+unfolding from
+range_from a zero = refl
+range_from a (suc n) = ap (λ (l : List ℕ). a ∷ l) (ap (λ (i : ℕ). range_with_len i n) (add-one a) ∙ range_from (suc a) n)
 
-  pub counted_start : Counted 0 0
-  counted_start = (
-    omega arith,
-    (let z : rows_from b 0 (n - 0) ≡ rows_from b 0 n = ap (rows_from b 0) (let y : n - 0 ≡ n = omega arith in y) in omega (arith, z)),
-    omega arith,
-  )
+summed : (h : ℕ → ℕ) (l : List ℕ) → sum_by h l ≡ sum (map h l)
+unfolding sum
+summed h [] = refl
+summed h (x ∷ l) = sum_by-cons h x l ∙ ap (λ (n : ℕ). h x + n) (summed h l)
 
-  pub counted_more : (rows r c j : ℕ) → Counted rows j → j < n → c ≡ size (line_union b j) → r ≡ rows_for c → r ≤ width → Counted (rows + r) (j + 1)
-  counted_more rows r c j I h e f l =
-      let step : rows_from b j (n - j) ≡ rows_for (size (line_union b j)) + rows_from b (suc j) (n - (j + 1)) =
-      rows_first b j (n - j) (n - (j + 1)) (let z : n - j ≡ suc (n - (j + 1)) = omega arith in z) in
-      let same : rows_from b (suc j) (n - (j + 1)) ≡ rows_from b (j + 1) (n - (j + 1)) =
-      ap (λ (i : ℕ). rows_from b i (n - (j + 1))) (let z : suc j ≡ j + 1 = omega arith in z) in
-      let here : r ≡ rows_for (size (line_union b j)) = f ∙ ap rows_for e in
-      (omega arith, omega (arith, I.1, step, same, here), omega (arith, I.2, l))
+module _ (b : List ℕ) where
+  -- the rows of line j, and no more than that many
+  abbrev pub rows_line : ℕ → ℕ
+  rows_line j = rows_for (size (line_union b j))
 
-  pub counted_end : (rows j : ℕ) → Counted rows j → n ≤ j → (rows ≡ rows_from b 0 n) × (rows ≤ width * n)
-  counted_end rows j I h =
-      let none : rows_from b j (n - j) ≡ 0 = rows_none b j (n - j) (let z : n - j ≡ 0 = omega arith in z) in
-      (omega (arith, I.1, none), omega (arith, I.2, I.0, h))
+  abbrev pub rows_few : ℕ → ℕ
+  rows_few j = min (rows_line j) width
+
+  pub rows_least : (j r : ℕ) → r ≡ rows_line j → r ≤ width → r ≡ rows_few j
+  rows_least j r e h = omega (arith, e)
+
+  pub rows_summed : (n : ℕ) → sum_by rows_line (range_with_len 0 n) ≡ rows_from b 0 n
+  unfolding rows_from
+  rows_summed n = ap (sum_by rows_line) (range_from 0 n) ∙ summed rows_line (from 0 n)
+
+  few_sum : (l : List ℕ) → sum_by rows_few l ≤ width * length l
+  few_sum [] = omega arith
+  few_sum (x ∷ l) = omega (arith, sum_by-cons rows_few x l, few_sum l)
+
+  pub rows_bound : (n : ℕ) → sum_by rows_few (range_with_len 0 n) ≤ width * n
+  rows_bound n = omega (arith, few_sum (range_with_len 0 n), length-range_with_len 0 n)

@@ -5,6 +5,7 @@ pub mod Examples
 pub mod Filling
 pub mod Names
 pub mod PageRows
+pub mod ReadLines
 pub mod Sizes
 pub mod Steps
 pub mod TreePages

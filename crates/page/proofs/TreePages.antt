@@ -1,10 +1,10 @@
 -- The tree of a sheet is never refused on a page with the names of that sheet, while it has 999,999 lines or fewer. Assumes nothing.
-use mathlib.Core.Path.{◌≡◌, sym, ap, ◌∙◌, subst}
+use mathlib.Core.Path.{◌≡◌, sym, ap, ◌∙◌}
 use mathlib.Core.Logic.{◌⊎◌, inl, inr}
 use mathlib.Core.Bool.{true}
 use mathlib.Core.List.Memᴰ
-use mathlib.Core.List.{List, [], ◌∷◌, append-nil}
-use Prim.Native.Nat.{ℕ, suc, ◌+◌, ◌*◌, ◌%◌, ◌≤◌, ◌<◌, ◌^◌}
+use mathlib.Core.List.{List, [], ◌∷◌, ◌++◌, append-nil}
+use Prim.Native.Nat.{ℕ, suc, ◌*◌, ◌%◌, ◌≤◌, ◌<◌, ◌^◌}
 use native.Mathlib.Omega.{arith}
 use lib.Dec.{eqb, leb}
 use lib.ListN.{length, get_or}
@@ -13,13 +13,11 @@ use Rattle.answers.specs.Verdict.{accepted, unless}
 use Rattle.answers.proofs.Laws.{then_go, last_go}
 use Rattle.sets.specs.Lists.{◌∈◌, below}
 use Rattle.sets.specs.Sets.{has, full, sub}
-use Rattle.sets.specs.Value.{width, set_bytes}
+use Rattle.sets.specs.Value.{width}
 use Rattle.sets.proofs.Tests.{and_intro}
 use Rattle.sets.proofs.ListLaws.{all_at, below_of, get_d_member}
 use Rattle.sets.proofs.Laws.{has_sub, parts_lt}
 use Rattle.sets.proofs.Members.{has_full}
-use Rattle.records.proofs.Numbers.{Field, field_set}
-use Rattle.records.proofs.InBytes.{record_field}
 use Rattle.percolation.specs.Links.{Link, heavy, family}
 use Rattle.percolation.specs.Tree.{Start, Line, line, goes_into, last_level, whole_of, lines_from, starts_from, tree, line_length, whole_place, tree_bytes}
 use Rattle.percolation.specs.Levels.{levels}
@@ -29,8 +27,9 @@ use Rattle.percolation.proofs.Communities.{at_part}
 use Rattle.percolation.proofs.Families.{cliques_of}
 use Rattle.sheet.specs.Sheet.{parts, links_of, check_sheet}
 use Rattle.sheet.proofs.Sound.{sheet_count}
-use Rattle.tree_lines.specs.LineModel.{line_bytes}
-use Rattle.tree_lines.proofs.LinePlaces.{line_bytes_lem, whole_at, tree_length}
+use Rattle.tree_lines.proofs.LinePlaces.{tree_length}
+use Rattle.sets.proofs.SetBytes.{set_behind}
+use Rattle.tree_lines.proofs.LineRead.{whole_read as union_read}
 use Rattle.page.specs.Page.{line_count, line_union, known, good_lines, check_page}
 
 -- ---- the unions of a tree have parts below p only
@@ -67,11 +66,9 @@ module _ (X : List Line) (d : Line) (j : ℕ) (h : j < length X) where
   x = get_or X j d
 
   pub whole_read : x.whole < 2 ^ width → line_union (tree_bytes X) j ≡ x.whole
-  unfolding tree_bytes
   whole_read l =
-      field_set (tree_bytes X) (j * line_length + whole_place) x.whole
-      (subst (λ (s : List ℕ). Field s (set_bytes x.whole) (j * line_length + whole_place)) (append-nil (tree_bytes X))
-      (record_field line_bytes line_length line_bytes_lem X d j whole_place h (set_bytes x.whole) (whole_at x) [])) l
+      ap (λ (b : List ℕ). line_union b j) (sym (append-nil (tree_bytes X))) ∙ sym (set_behind (tree_bytes X ++ []) (j * line_length) whole_place)
+      ∙ union_read X d j h [] l
 
 -- ---- the page of a tree
 

@@ -10,6 +10,7 @@ use Rattle.sets.specs.Value.{set_at}
 use Rattle.records.specs.Numbers.{two_at}
 use Rattle.percolation.specs.Tree.{line_length, whole_place}
 use Rattle.sheet.specs.Sheet.{parts, name_of, check_sheet}
+pub use Rattle.tree_lines.specs.Count.{line_count}
 
 -- ---- a row
 
@@ -69,10 +70,7 @@ unfoldable pub line_rows : List ℕ → ℕ → ℕ → List ℕ → List (List 
 unfolding page_row blank_rows six_columns
 line_rows s n w Q = page_row s (six_columns n ++ six_columns w) Q ∷ blank_rows s (further_rows (length Q)) (drop 6 Q)
 
--- how many lines there are, and the weight and the union of the line at place j, counted from 0
-abbrev pub line_count : List ℕ → ℕ
-line_count b = length b / line_length
-
+-- the weight and the union of the line at place j, counted from 0
 abbrev pub line_weight : List ℕ → ℕ → ℕ
 line_weight b j = two_at b (j * line_length)
 

@@ -7,6 +7,7 @@ ghost use Rattle.std.proofs.lemmas.List.Edits.{sets};
 ghost use Rattle.answers.specs.Model.{verdict};
 ghost use Rattle.sets.specs.Lists.{all, below};
 ghost use Rattle.sets.specs.Rest.{left_of};
+ghost use Rattle.sets.specs.Sets.{size};
 ghost use Rattle.sets.specs.Value.{num, width};
 ghost use Rattle.percolation.specs.Tree.{line_length};
 ghost use Rattle.page.specs.Page.{
@@ -20,7 +21,6 @@ ghost use Rattle.page.specs.Page.{
   rows_for,
   line_rows,
   line_count,
-  line_weight,
   line_union,
   page_of,
   known,
@@ -33,10 +33,11 @@ ghost use Rattle.page.specs.Model.{Named, Leaves, Fits, parts_in, rows_from};
 
 use answers::{Answer, Fault, Refusal};
 use sets::{Iter, Set};
+use tree_lines::Line;
 
 // ---- columns
 
-// The column of n for a unit.
+// The column of n for a unit. A digit is no u8 by From: hence `as`.
 fn column(n: usize, unit: usize) -> u8
     requires { 0 < unit }
     ensures { result ≡ column n unit }
@@ -48,7 +49,7 @@ fn column(n: usize, unit: usize) -> u8
     }
 }
 
-// n in the first six columns.
+// n in the first six columns. One by one: a loop over the units would have to show of each that it is not 0.
 fn put_number(out: &mut [u8], n: usize)
     requires { 6 ≤ length out.old }
     ensures { out.new ≡ sets out.old 0 (six_columns n) }
@@ -76,7 +77,8 @@ fn put_cell(sheet: &[u8], parts: &mut Iter, out: &mut [u8])
     }
 }
 
-// The names of the next six parts, in 60 columns.
+// The names of the next six parts, in 60 columns. Parts of a page are lent by index, here and below: of what chunks_exact_mut lends, no proof knows the
+// elements afterwards.
 fn put_names(sheet: &[u8], parts: &mut Iter, out: &mut [u8])
     requires { Named sheet.now (left_of parts.old) × (length out.old ≡ 60) }
     ensures out_after { out.new ≡ cells sheet.now 6 (parts_in sheet.now (left_of parts.old)) }
@@ -110,47 +112,28 @@ fn put_rows(sheet: &[u8], whole: Set, n: usize, out: &mut [u8])
 }
 
 // The rows of a line: its names, then both numbers in the first row.
-fn put_line(sheet: &[u8], number: usize, weight: usize, whole: Set, n: usize, out: &mut [u8])
-    requires { Named sheet.now (num whole) × (n ≡ rows_for (length (parts_in sheet.now (num whole)))) × (length out.old ≡ 73 * n) }
-    ensures { out.new ≡ flatten (line_rows sheet.now number weight (parts_in sheet.now (num whole))) }
+fn put_line(sheet: &[u8], number: usize, line: Line, n: usize, out: &mut [u8])
+    requires { Named sheet.now (num line.whole) × (n ≡ rows_for (length (parts_in sheet.now (num line.whole)))) × (length out.old ≡ 73 * n) }
+    ensures { out.new ≡ flatten (line_rows sheet.now number line.weight (parts_in sheet.now (num line.whole))) }
 {
-    put_rows(sheet, whole, n, out);
+    put_rows(sheet, line.whole, n, out);
     put_number(&mut out[0..6], number);
-    put_number(&mut out[6..12], weight);
+    put_number(&mut out[6..12], line.weight);
 }
 
 // ---- lines
 
-fn line_count(lines: &[u8]) -> usize
-    ensures { result ≡ line_count lines.now }
-{
-    lines.len() / tree_lines::line_length()
-}
-
-fn is_whole(lines: &[u8]) -> bool
-    ensures { result ≡ eqb (length lines.now % line_length) 0 }
-{
-    lines.len() % tree_lines::line_length() == 0
-}
-
-fn weight_of(lines: &[u8], j: usize) -> usize
-    requires { j < 1000000 }
-    ensures { result ≡ line_weight lines.now j }
-{
-    records::two_at(lines, j * tree_lines::line_length())
-}
-
+// The union of line j.
 fn union_of(lines: &[u8], j: usize) -> Set
-    requires { j < 1000000 }
+    requires { j < line_count lines.now }
     ensures { num result ≡ line_union lines.now j }
 {
-    let size = tree_lines::line_length();
-    sets::from_bytes(lines, j * size + tree_lines::whole_place())
+    tree_lines::line_at(lines, j).whole
 }
 
 // Whether the unions of n lines have parts below p only.
 fn all_known(lines: &[u8], p: usize, n: usize) -> bool
-    requires { (p ≤ width) × (n < 1000000) }
+    requires { (p ≤ width) × (n ≡ line_count lines.now) }
     ensures { result ≡ all (known p lines.now) (below n) }
 {
     let parts = sets::upto(p);
@@ -161,31 +144,35 @@ fn good_lines(lines: &[u8], p: usize) -> bool
     requires { p ≤ width }
     ensures { result ≡ good_lines p lines.now }
 {
-    let n = line_count(lines);
+    let n = tree_lines::line_count(lines);
     let few = n <= 999999;
-    is_whole(lines) && (few && all_known(lines, p, n))
+    tree_lines::is_whole(lines) && (few && all_known(lines, p, n))
 }
 
 // ---- rows
 
-// How many rows n names take.
-fn rows_for(n: usize) -> usize
-    requires { n ≤ width }
-    ensures { (result ≡ rows_for n) × (result ≤ width) }
+// How many rows the names of a set take.
+fn rows_of(whole: Set) -> usize
+    ensures { (result ≡ rows_for (size (num whole))) × (result ≤ width) }
 {
+    let n = sets::count(whole);
     n.div_ceil(6).max(1)
+}
+
+// How many rows line j takes.
+fn rows_at(lines: &[u8], j: usize) -> usize
+    requires { j < line_count lines.now }
+    ensures { (result ≡ rows_for (size (line_union lines.now j))) × (result ≤ width) }
+{
+    rows_of(union_of(lines, j))
 }
 
 // How many rows n lines take.
 fn row_count(lines: &[u8], n: usize) -> usize
-    requires { n < 1000000 }
+    requires { (n ≡ line_count lines.now) × (n < 1000000) }
     ensures { (result ≡ rows_from lines.now 0 n) × (result ≤ width * n) }
 {
-    let mut rows = 0;
-    for j in 0..n {
-        rows += rows_for(sets::count(union_of(lines, j)));
-    }
-    rows
+    (0..n).map(|j| rows_at(lines, j)).sum()
 }
 
 // The sheet's own checks, then 24.
@@ -196,18 +183,17 @@ fn admit(sheet: &[u8], lines: &[u8]) -> Result<(), Refusal>
     answers::require(good_lines(lines, counts.parts), Fault::TreeLines, 0)
 }
 
-// Writes the rows of all n lines.
+// Writes the rows of all n lines. Those of a line begin where those before it end, so that no plain index tells where.
 fn put_page(sheet: &[u8], lines: &[u8], n: usize, out: &mut [u8])
     requires { Fits sheet.now lines.now n (length out.old) }
     ensures { out.new ≡ page_of sheet.now lines.now }
 {
     let mut at = 0;
     for j in 0..n {
-        let whole = union_of(lines, j);
-        let rows = rows_for(sets::count(whole));
+        let line = tree_lines::line_at(lines, j);
+        let rows = rows_of(line.whole);
         let end = at + 73 * rows;
-        let weight = weight_of(lines, j);
-        put_line(sheet, j + 1, weight, whole, rows, &mut out[at..end]);
+        put_line(sheet, j + 1, line, rows, &mut out[at..end]);
         at = end;
     }
 }
@@ -217,7 +203,7 @@ pub fn rows(sheet: &[u8], lines: &[u8]) -> Answer
     ensures { RowsMeets sheet.now lines.now result }
 {
     admit(sheet, lines)?;
-    Ok(row_count(lines, line_count(lines)))
+    Ok(row_count(lines, tree_lines::line_count(lines)))
 }
 
 // Writes the page of the tree lines to the start of out: the sheet's own checks, 24, then 16. The count is that of the rows.
@@ -225,7 +211,7 @@ pub fn write(sheet: &[u8], lines: &[u8], out: &mut [u8]) -> Answer
     ensures { PageMeets sheet.now lines.now out.old result out.new }
 {
     admit(sheet, lines)?;
-    let n = line_count(lines);
+    let n = tree_lines::line_count(lines);
     let count = row_count(lines, n);
     let end = 73 * count;
     answers::require(end <= out.len(), Fault::Space, 0)?;

@@ -9,13 +9,32 @@ ghost use Rattle.part_names.specs.Model.{FirstFault};
 
 use answers::{Fault, Refusal};
 
+// Names of eight bytes each, at the start of some bytes.
+#[derive(Clone, Copy)]
+pub struct NameList<'a> {
+    pub bytes: &'a [u8],
+    pub count: usize,
+    pub ghost within: { 8 * count ≤ length bytes.now },
+}
+
+impl<'a> NameList<'a> {
+    // The eight bytes of name q.
+    pub fn at(self, q: usize) -> &'a [u8]
+        requires { q < self.count }
+        ensures { result.now ≡ eight_at self.entry.bytes.now (8 * q) }
+    {
+        let at = 8 * q;
+        &self.bytes[at..at + 8]
+    }
+}
+
 pub fn is_visible(b: u8) -> bool
     ensures { result ≡ visible b }
 {
     (33..=126).contains(&b)
 }
 
-fn only_spaces(n: &[u8]) -> bool
+pub fn only_spaces(n: &[u8]) -> bool
     ensures { result ≡ list_all (λ b. b == 32) n.now }
 {
     n.iter().all(|b| *b == b' ')
@@ -36,38 +55,27 @@ pub fn is_name(n: &[u8]) -> bool
     0 < at && only_spaces(&n[at..])
 }
 
-// The eight bytes of name q.
-fn eight(names: &[u8], q: usize) -> &[u8]
-    requires { 8 * q + 8 ≤ length names.now }
-    ensures { result.now ≡ eight_at names.now (8 * q) }
+// The first of the names that is none.
+fn bad_name(names: NameList) -> Option<usize>
+    ensures { FirstFault (λ q. is_name (eight_at names.entry.bytes.now (8 * q))) names.entry.count result }
 {
-    let at = 8 * q;
-    &names[at..at + 8]
-}
-
-// The first of p names, eight bytes each from the start of `names`, that is none.
-fn bad_name(names: &[u8], p: usize) -> Option<usize>
-    requires { 8 * p ≤ length names.now }
-    ensures { FirstFault (λ q. is_name (eight_at names.now (8 * q))) p result }
-{
-    (0..p).find(|q| !is_name(eight(names, *q)))
+    (0..names.count).find(|q| !is_name(names.at(*q)))
 }
 
 // Whether name q is an earlier one again: all eight bytes are compared, spaces too.
-fn is_repeated(names: &[u8], q: usize) -> bool
-    requires { 8 * q + 8 ≤ length names.now }
-    ensures { result ≡ repeated (λ i. eight_at names.now (8 * i)) q }
+fn is_repeated(names: NameList, q: usize) -> bool
+    requires { q < names.count }
+    ensures { result ≡ repeated (λ i. eight_at names.entry.bytes.now (8 * i)) q }
 {
-    let name = eight(names, q);
-    (0..q).any(|i| eight(names, i) == name)
+    let name = names.at(q);
+    (0..q).any(|i| names.at(i) == name)
 }
 
-// The first of p names that is an earlier one again.
-fn repeated_name(names: &[u8], p: usize) -> Option<usize>
-    requires { 8 * p ≤ length names.now }
-    ensures { FirstFault (λ q. not (repeated (λ i. eight_at names.now (8 * i)) q)) p result }
+// The first of the names that is an earlier one again.
+fn repeated_name(names: NameList) -> Option<usize>
+    ensures { FirstFault (λ q. not (repeated (λ i. eight_at names.entry.bytes.now (8 * i)) q)) names.entry.count result }
 {
-    (0..p).find(|q| is_repeated(names, *q))
+    (0..names.count).find(|q| is_repeated(names, *q))
 }
 
 // 5, then 21, of p names, eight bytes each from the start of `names`. `first` is the place of the first name, and each next one lies `step` further: the
@@ -76,8 +84,12 @@ pub fn test(names: &[u8], p: usize, first: usize, step: usize) -> Result<(), Ref
     requires { (8 * p ≤ length names.now) × (p ≤ 256) × (first < 1048576) × (step ≤ 8) }
     ensures { verdict result ≡ check_names (λ q. eight_at names.now (8 * q)) (λ q. first + step * q) p }
 {
-    let bad = bad_name(names, p);
-    let again = repeated_name(names, p);
+    let list = NameList {
+        bytes: names,
+        count: p,
+    };
+    let bad = bad_name(list);
+    let again = repeated_name(list);
     if let Some(q) = bad {
         return Err(Refusal {
             fault: Fault::Name,

@@ -22,7 +22,7 @@ use Rattle.slots_theory.specs.Shows.{Shows}
 use Rattle.slots_theory.proofs.Shown.{Family, shown_same, used_slots}
 use Rattle.slots_theory.proofs.Taken.{taken_shown}
 use Rattle.clique_taking.proofs.AllTaken.{slots_mono, moved, back}
-use Rattle.percolating.specs.Model.{lacking, overfull, took_fitting, took_each}
+use Rattle.percolating.specs.Model.{lacking, has_room, overfull, took_fitting, took_each}
 use Rattle.percolating.proofs.Lacking.{slots_one}
 
 -- ---- one clique
@@ -143,26 +143,15 @@ module _ (p k : ℕ) (wide : p ≤ width) (two : 2 ≤ k) (sure : Bool) where
       subst (λ (X : List ℕ). FittingAll X F T) (append-nil F)
       (each_fitting F [] T f (λ x m. absurd (Memᴰ.not-nil m)) h (subst (λ (X : List ℕ). Plenty X T) (sym (append-nil F)) plenty))
 
--- ---- one clique as the code takes it in, where y is the room and b what it is told of the free slots
+-- ---- one clique as the code takes it in
 
-module _ (sure : Bool) (T : Tables) (Q y : ℕ) (space : y ≡ room T.entries) where
-  pub took_over : y < T.used → T ≡ took_fitting sure T Q
-  took_over h = sym (fitting_over sure T Q (omega (arith, space)))
+module _ (sure : Bool) (T : Tables) (Q : ℕ) (h : T.used ≤ room T.entries) where
+  pub took_full : sure || has_room T Q ≡ false → tables T.sets T.entries T.smallest T.unions (room T.entries + 1) ≡ took_fitting sure T Q
+  unfolding took_fitting overfull
+  took_full e =
+      ap (tables T.sets T.entries T.smallest T.unions) (let n : room T.entries + 1 ≡ suc (room T.entries) = omega arith in n)
+      ∙ cond_stop (ltb (room T.entries) T.used) _ _ (le-ltb (room T.entries) T.used h) (cond_stop (sure || has_room T Q) _ _ e refl)
 
-  module _ (h : T.used ≤ y) (b : Bool) (told : b ≡ sure || leb (length (lacking T.sets T.used Q)) (y - T.used)) where
-    free : sure || leb (length (lacking T.sets T.used Q)) (room T.entries - T.used) ≡ b
-    free = sym (told ∙ ap (λ (x : ℕ). sure || leb (length (lacking T.sets T.used Q)) (x - T.used)) space)
-
-    pub took_full : b ≡ false → tables T.sets T.entries T.smallest T.unions (y + 1) ≡ took_fitting sure T Q
-    unfolding took_fitting overfull
-    took_full e =
-        ap (tables T.sets T.entries T.smallest T.unions) (let n : y + 1 ≡ suc (room T.entries) = omega (arith, space) in n)
-        ∙ cond_stop (ltb (room T.entries) T.used) _ _ (le-ltb (room T.entries) T.used (omega (arith, space)))
-        (cond_stop (sure || leb (length (lacking T.sets T.used Q)) (room T.entries - T.used)) _ _ (free ∙ e) refl)
-
-    pub took_fits : b ≡ true → (U : Tables) → U ≡ took_in T Q → U ≡ took_fitting sure T Q
-    unfolding took_fitting
-    took_fits e U u =
-        u
-        ∙ cond_stop (ltb (room T.entries) T.used) _ _ (le-ltb (room T.entries) T.used (omega (arith, space)))
-        (cond_go (sure || leb (length (lacking T.sets T.used Q)) (room T.entries - T.used)) _ _ (free ∙ e) refl)
+  pub took_fits : sure || has_room T Q ≡ true → took_in T Q ≡ took_fitting sure T Q
+  unfolding took_fitting
+  took_fits e = cond_stop (ltb (room T.entries) T.used) _ _ (le-ltb (room T.entries) T.used h) (cond_go (sure || has_room T Q) _ _ e refl)

@@ -1,15 +1,17 @@
 -- The sub-cliques with no slot counted, and the strong cliques taken in, turn by turn. Assumes nothing.
 use Rattle.std.proofs.lemmas.List.{append-nil}
+use Rattle.std.specs.Prelude.{Option, Some, None, is_some}
 use Rattle.std.specs.List.{filter}
 use mathlib.Core.Path.{◌≡◌, refl, sym, ap, ap₂, ◌∙◌, subst}
-use mathlib.Core.Bool.{Bool, true, false, cond, ◌||◌}
+use mathlib.Core.Bool.{Bool, true, false, cond, not, true≢false}
+use mathlib.Core.Logic.{◌⊎◌, inl, inr}
 use mathlib.Core.List.{List, [], ◌∷◌, ◌++◌, map}
-use Prim.Native.Nat.{ℕ, suc, ◌+◌, ◌≤◌, ◌<◌, ◌^◌}
+use Prim.Native.Nat.{ℕ, zero, suc, ◌+◌, ◌-◌, ◌≤◌, ◌<◌, ◌^◌}
 use native.Mathlib.Omega.{arith}
 use lib.Dec.{leb}
 use lib.ListN.{length, get_or}
 use lib.Ieee.{Float, nan}
-use borrow.Author.Tests.{le-leb}
+use borrow.Author.Tests.{le-leb, lt-leb}
 use Rattle.sets.specs.declared.walk.Iter.{Iter}
 use Rattle.sets.specs.Lists.{keep, from, below}
 use Rattle.sets.specs.Rest.{left_of, rest}
@@ -17,19 +19,20 @@ use Rattle.sets.specs.Sets.{out, size, members}
 use Rattle.sets.specs.Value.{width, row}
 use Rattle.sets.proofs.Given.{left_lt, rest_is}
 use Rattle.sets.proofs.Laws.{size_le}
-use Rattle.sets.proofs.Tests.{or_left}
+use Rattle.sets.proofs.Tests.{split}
 use Rattle.sets.proofs.ListLaws.{keep_yes, keep_no, keep_le, keep_all, keep_append, map_append, below_more}
 use Rattle.sets.proofs.Members.{members_length}
 use Rattle.percolation.specs.Strength.{weakest_of}
 use Rattle.products.specs.declared.Measure.{Measure}
 use Rattle.products.specs.Measures.{strong_enough, strong_with}
 use Rattle.products.specs.Model.{table_weights}
-use Rattle.slots.specs.declared.Lent.{Lent}
-use Rattle.slots.specs.Lent.{tables_of, SameLent}
+use Rattle.slots.specs.declared.list.SlotList.{SlotList}
+use Rattle.slots.specs.List.{slots_of, SameSlots, Finds}
 use Rattle.slots.specs.Tables.{Tables, room}
 use Rattle.slots.specs.Model.{find}
 use Rattle.clique_list.specs.Model.{Scores}
 use Rattle.percolating.specs.Model.{lacks, lacking, took_fitting, took_each, strong_by}
+use Rattle.percolating.proofs.Fitting.{fitting_over}
 
 -- ---- has_room
 
@@ -45,9 +48,18 @@ module _ (sets : List ℕ) (used Q : ℕ) where
       (keep_le (lacks sets used Q) (λ q. true) (members width Q) (λ q m e. refl)) (ap length (keep_all (λ q. true) (members width Q) (λ q m. refl)))
       (members_length width Q fits) h))
 
-  pub lacking_tests : lacking sets used Q ≡ keep (λ q. leb used (find sets used (out q Q))) (members width Q)
-  unfolding lacking lacks
+  pub lacking_tests : keep (lacks sets used Q) (members width Q) ≡ lacking sets used Q
+  unfolding lacking
   lacking_tests = refl
+
+-- what finding a sub-clique says
+pub lacks_is : (r : Option ℕ) (sets : List ℕ) (used Q q s : ℕ) → s ≡ out q Q → Finds r sets used s → (b : Bool) → is_some r ≡ not b
+    → b ≡ lacks sets used Q q
+unfolding lacks
+lacks_is None sets used Q q s e h true t = sym (le-leb used _ (omega (arith, h, ap (find sets used) e)))
+lacks_is None sets used Q q s e h false t = absurd (true≢false (sym t))
+lacks_is (Some i) sets used Q q s e h true t = absurd (true≢false t)
+lacks_is (Some i) sets used Q q s e h false t = sym (lt-leb used _ (omega (arith, h.0, h.1, ap (find sets used) e)))
 
 -- `filter` of the library keeps those that `keep` keeps
 pub same_keep : (f : ℕ → Bool) (l : List ℕ) → filter f l ≡ keep f l
@@ -62,14 +74,6 @@ same_keep f (x ∷ l) = go (f x) (same_keep f l)
 -- a set has as many parts as it can hold, or fewer
 pub rest_few : (s : Iter) → length (rest s) ≤ width
 rest_few s = omega (arith, ap length (rest_is s), members_length width (left_of s) (left_lt s), size_le width (left_of s) (left_lt s))
-
--- ---- may_take
-
-pub sure_so : (sure b : Bool) → sure ≡ true → sure ≡ sure || b
-sure_so sure b e = e ∙ sym (or_left sure b e)
-
-pub sure_not : (sure b r : Bool) → sure ≡ false → r ≡ b → r ≡ sure || b
-sure_not sure b r e f = f ∙ sym (ap (λ (x : Bool). x || b) e)
 
 -- ---- percolate
 
@@ -111,12 +115,31 @@ module _ (M : Measure) (W C : List ℕ) (sure : Bool) (T : Tables) (i : ℕ) whe
       u ∙ sym (ap (took_each sure T) (ap (keep (strong_by M W)) rows_more ∙ keep_append (strong_by M W) (map (row C) (below i)) (row C i ∷ [])
       ∙ ap (λ (l : List ℕ). strong_first M W C i ++ l) (keep_no (strong_by M W) (row C i) [] t) ∙ append-nil (strong_first M W C i)))
 
--- the tables u, with m slots used, have the strong ones of the first i rows more than the tables t
-abbrev pub HaveFirst : Measure → List ℕ → List ℕ → Bool → Lent → ℕ → Lent → ℕ → Type 0
-HaveFirst M W C sure t i u m =
-    SameLent t u × (m ≤ room u.entries.now + 1) × (tables_of u m ≡ took_each sure (tables_of t 0) (strong_first M W C i))
+-- tables with more slots used than there may be stay as they are
+pub strong_rest : (M : Measure) (W C : List ℕ) (sure : Bool) (T V : Tables) → room V.entries < V.used → (d i : ℕ)
+    → V ≡ took_each sure T (strong_first M W C i) → V ≡ took_each sure T (strong_first M W C (i + d))
+strong_rest M W C sure T V h zero i e = e ∙ ap (λ (n : ℕ). took_each sure T (strong_first M W C n)) (let n : i ≡ i + 0 = omega arith in n)
+strong_rest M W C sure T V h (suc d) i e =
+    go (split (strong_by M W (row C i))) (strong_rest M W C sure T V h d (i + 1))
+    ∙ ap (λ (n : ℕ). took_each sure T (strong_first M W C n)) (let n : i + 1 + d ≡ i + suc d = omega arith in n)
+  where
+    go : (strong_by M W (row C i) ≡ true) ⊎ (strong_by M W (row C i) ≡ false)
+        → (V ≡ took_each sure T (strong_first M W C (i + 1)) → V ≡ took_each sure T (strong_first M W C (i + 1 + d)))
+        → V ≡ took_each sure T (strong_first M W C (i + 1 + d))
+    go (inl t) rest = rest (strong_yes M W C sure T i V e t (row C i) refl V (sym (fitting_over sure V (row C i) h)))
+    go (inr t) rest = rest (strong_no M W C sure T i V e t)
 
-pub have_same : (M : Measure) (W C : List ℕ) (sure : Bool) (t : Lent) (i : ℕ) (u v : Lent) (m n : ℕ) → u ≡ v → m ≡ n → HaveFirst M W C sure t i v n
-    → HaveFirst M W C sure t i u m
-have_same M W C sure t i u v m n e f h =
-    subst (λ (x : Lent). HaveFirst M W C sure t i x m) (sym e) (subst (λ (k : ℕ). HaveFirst M W C sure t i v k) (sym f) h)
+-- and so where there are none enough for row i
+pub strong_full : (M : Measure) (W C : List ℕ) (sure : Bool) (T V : Tables) (i n : ℕ) → i < n → room V.entries < V.used
+    → V ≡ took_each sure T (strong_first M W C (i + 1)) → V ≡ took_each sure T (strong_first M W C n)
+strong_full M W C sure T V i n l h e =
+    strong_rest M W C sure T V h (n - (i + 1)) (i + 1) e
+    ∙ ap (λ (m : ℕ). took_each sure T (strong_first M W C m)) (let m : i + 1 + (n - (i + 1)) ≡ n = omega arith in m)
+
+-- the tables of u have the strong ones of the first i rows more than those of t
+abbrev pub HaveFirst : Measure → List ℕ → List ℕ → Bool → SlotList → ℕ → SlotList → Type 0
+HaveFirst M W C sure t i u = SameSlots t u × (slots_of u ≡ took_each sure (slots_of t) (strong_first M W C i))
+
+pub have_same : (M : Measure) (W C : List ℕ) (sure : Bool) (t : SlotList) (i : ℕ) (u v : SlotList) → u ≡ v → HaveFirst M W C sure t i v
+    → HaveFirst M W C sure t i u
+have_same M W C sure t i u v e h = subst (λ (x : SlotList). HaveFirst M W C sure t i x) (sym e) h

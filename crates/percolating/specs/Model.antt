@@ -18,6 +18,10 @@ lacks sets used Q q = leb used (find sets used (out q Q))
 unfoldable pub lacking : List ℕ → ℕ → ℕ → List ℕ
 lacking sets used Q = keep (lacks sets used Q) (members width Q)
 
+-- they are no more than the free slots
+abbrev pub has_room : Tables → ℕ → Bool
+has_room T Q = leb (length (lacking T.sets T.used Q)) (room T.entries - T.used)
+
 -- the tables with one slot more in use than there may be: what is left to take in did not fit
 unfoldable pub overfull : Tables → Tables
 overfull T = tables T.sets T.entries T.smallest T.unions (suc (room T.entries))
@@ -26,7 +30,7 @@ overfull T = tables T.sets T.entries T.smallest T.unions (suc (room T.entries))
 unfoldable pub took_fitting : Bool → Tables → ℕ → Tables
 took_fitting sure T Q =
     cond (ltb (room T.entries) T.used) T
-    (cond (sure || leb (length (lacking T.sets T.used Q)) (room T.entries - T.used)) (took_in T Q) (overfull T))
+    (cond (sure || has_room T Q) (took_in T Q) (overfull T))
 
 unfoldable pub took_each : Bool → Tables → List ℕ → Tables
 took_each sure T [] = T

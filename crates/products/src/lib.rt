@@ -9,6 +9,7 @@ ghost use Rattle.products.specs.Products.{times_of, product_of};
 ghost use Rattle.products.specs.Measures.{strong_enough};
 ghost use Rattle.products.specs.Model.{pair_weight, table_weights, part_weights};
 
+use checks::pairs;
 use sets::Set;
 
 // A clique, with its product.
@@ -33,6 +34,7 @@ struct Strength {
 }
 
 // v times a weight, rounded once.
+// A function for its clause: `times_of` rounds once, and the theorems speak of it.
 fn times(v: f64, w: u16) -> f64
     ensures { result ≡ times_of v w }
 {
@@ -45,8 +47,7 @@ fn weight_at(weights: &[u16], q: usize, r: usize) -> u16
     requires { (q < 64) × (r < 64) }
     ensures { result ≡ pair_weight weights.now q r }
 {
-    let at = q * 64 + r;
-    weights.get(at).copied().unwrap_or(0)
+    weights.get(pairs::number(q, r)).copied().unwrap_or(0)
 }
 
 // The strength s with the weights of q and each part of t.
@@ -74,9 +75,8 @@ fn strength_of(weights: &[u16], set: Set) -> Strength
         weakest: 65535,
         product: 1.0,
     };
-    let mut parts = set.parts();
-    while let Some(q) = parts.next() {
-        strength = strength_with(weights, q, parts.left(), strength);
+    for (q, rest) in set.parts_with_rest() {
+        strength = strength_with(weights, q, rest, strength);
     }
     strength
 }

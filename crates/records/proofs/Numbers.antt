@@ -1,15 +1,14 @@
 -- Bytes written over lent space one after the other, and numbers of two and four bytes read back. Assumes nothing.
 use mathlib.Core.Path.{◌≡◌, refl, sym, ap, ap₂, ◌∙◌}
 use mathlib.Core.Logic.{◌⊎◌, inl, inr}
-use mathlib.Core.List.{List, [], ◌∷◌, ◌++◌, append_assoc}
-use Prim.Native.Nat.{ℕ, ◌+◌, ◌*◌, ◌/◌, ◌%◌, ◌^◌, ◌≤◌, ◌<◌, min}
+use mathlib.Core.List.{List, ◌∷◌, ◌++◌, append_assoc}
+use Prim.Native.Nat.{ℕ, ◌+◌, ◌-◌, ◌*◌, ◌/◌, ◌%◌, ◌^◌, ◌≤◌, ◌<◌, min}
 use native.Mathlib.Omega.{arith}
 use native.Mathlib.Nat.{div-div-eq-div-mul}
 use lib.ListN.{length, get_or, take, drop, length-append, length-drop, take-append-drop, get_or-eq_default}
-use lib.Seq.{sets, drop-drop, sets-eq, take_at, drop_at, length-take-le, get_or-append-add}
-use Rattle.std.specs.Int.{bytes_high_first}
+use lib.Seq.{sets, take_all, drop-drop, sets-eq, take_at, drop_at, length-take-le, get_or-append-add}
 use Rattle.sets.specs.Value.{width, bytes, set_bytes, set_at, with_set}
-use Rattle.sets.proofs.SetBytes.{set_length_lem, high_first, two_bytes, four_bytes, put_writes, at_reads}
+use Rattle.sets.proofs.SetBytes.{bytes_length, set_length_lem, two_bytes, four_bytes, put_writes, at_reads, low_bytes}
 use Rattle.sets.proofs.Tests.{lt_or_le}
 use Rattle.records.specs.Numbers.{two_at, four_at}
 
@@ -63,15 +62,6 @@ pub record Field (xs v : List ℕ) (k : ℕ) : Type 0 where
   pub back : List ℕ
   pub parts : xs ≡ front ++ v ++ back
   pub long : length front ≡ k
-
--- with more before and behind
-pub field_within : (xs v a b : List ℕ) (k : ℕ) → Field xs v k → Field (a ++ xs ++ b) v (length a + k)
-field_within xs v a b k F = record {
-  front = a ++ F.front;
-  back = F.back ++ b;
-  parts = ap (λ (t : List ℕ). a ++ t ++ b) F.parts ∙ simp append_assoc;
-  long = length-append a F.front ∙ ap (λ (n : ℕ). length a + n) F.long;
-}
 
 pub field_written : (old new u v : List ℕ) (k : ℕ) (F : Field old u k) → length u ≡ length v → Writes old new k v → new ≡ F.front ++ v ++ F.back
 field_written old new u v k F e w = w F.front u F.back F.parts F.long e
@@ -151,14 +141,7 @@ sets_placed old y z at k h l e =
     ∙ ap (λ (t : List ℕ). take at old ++ z ++ t) (drop-drop k at old ∙ ap (λ (n : ℕ). drop (at + n) old) (sym l))
     ∙ sym (sets-eq z old at (omega (arith, l)))
 
-pub two_low : (v : ℕ) → bytes_high_first 2 (v % 65536) ≡ bytes 2 v
-two_low v = high_first 2 (v % 65536) ∙ two_bytes (v % 65536) ∙ ap₂ (λ (a b : ℕ). a ∷ b ∷ []) (omega arith) (omega arith) ∙ sym (two_bytes v)
-
-pub four_low : (v : ℕ) → bytes_high_first 4 (v % 4294967296) ≡ bytes 4 v
-four_low v =
-    let w = v % 4294967296 in
-    let a : w / 16777216 % 256 ≡ v / 16777216 % 256 = omega arith in
-    let b : w / 65536 % 256 ≡ v / 65536 % 256 = omega arith in
-    let c : w / 256 % 256 ≡ v / 256 % 256 = omega arith in
-    let d : w % 256 ≡ v % 256 = omega arith in
-    high_first 4 w ∙ four_bytes w ∙ ap₂ (λ (x y : List ℕ). x ++ y) (ap₂ (λ (m n : ℕ). m ∷ n ∷ []) a b) (ap₂ (λ (m n : ℕ). m ∷ n ∷ []) c d) ∙ sym (four_bytes v)
+pub put_low : (n v : ℕ) → n ≤ 8 → (all d : List ℕ) → all ≡ bytes 8 v → d ≡ take (8 - (8 - n)) (drop (8 - n) all) → d ≡ bytes n v
+put_low n v h all d e f =
+    f ∙ ap (take (8 - (8 - n))) (ap (drop (8 - n)) e ∙ low_bytes (8 - n) n 8 v (omega arith))
+    ∙ take_all (8 - (8 - n)) (bytes n v) (omega (arith, bytes_length n v))

@@ -1,4 +1,4 @@
-// The faults of typed lines in words.
+// The faults of typed lines in words; the last arm is 16, which a text with more links than there is room for gets.
 use answers::Fault;
 
 pub fn line_words(fault: Fault) -> &'static str {

@@ -1,22 +1,37 @@
 // The families of a listing, of a sheet at a threshold or of the links so far.
-use crate::heads;
+use crate::heads::{FAMILY, Head};
 use crate::names::Names;
 use sets::Set;
-use std::io;
+use std::{fmt, io};
 
-// The n families of a listing of a sheet: each has 16 bytes, its smallest clique from byte 0 and its parts from byte 8.
+// The families of a sheet at clique size k: each has 16 bytes, its smallest clique from byte 0 and its parts from byte 8.
 #[derive(Clone, Copy)]
 pub struct Listing<'a> {
     pub sheet: &'a [u8],
     pub k: usize,
-    pub out: &'a [u8],
-    pub n: usize,
+    pub families: &'a [[u8; 16]],
+}
+
+impl<'a> Listing<'a> {
+    // The first n families of an answer.
+    pub fn new(sheet: &'a [u8], k: usize, out: &'a [u8], n: usize) -> Listing<'a> {
+        let (families, _) = out.as_chunks::<16>();
+        Listing {
+            sheet,
+            k,
+            families: &families[..n.min(families.len())],
+        }
+    }
+
+    pub fn head(&self) -> Head {
+        Head(self.families.len(), FAMILY, self.k)
+    }
 }
 
 // A line for each family; the parts of all of them.
 fn lines(rt: &impl Print, listing: Listing<'_>) -> io::Result<Set> {
     let mut seen = sets::empty();
-    for (number, family) in (1..=listing.n).zip(listing.out.chunks_exact(16)) {
+    for (number, family) in (1..=listing.families.len()).zip(listing.families) {
         let union = sets::from_bytes(family, 8);
         println!(rt; "family {number}:{}", Names(listing.sheet, union))?;
         seen = sets::union(seen, union);
@@ -33,34 +48,13 @@ pub fn others(rt: &impl Print, s: &[u8], seen: Set) -> io::Result<()> {
     println!(rt; "in no family:{}", Names(s, rest))
 }
 
-// The families by number and the parts in none.
-fn after_head(rt: &impl Print, listing: Listing<'_>) -> io::Result<()> {
-    let seen = lines(rt, listing)?;
-    others(rt, listing.sheet, seen)
-}
-
-// A listing's families at a threshold.
-pub fn families(rt: &impl Print, listing: Listing<'_>, t: u16) -> io::Result<()> {
-    println!(rt; "{}, threshold {t}", heads::families(listing.n, listing.k))?;
-    after_head(rt, listing)
-}
-
-// A listing's families by clique strength: the measure in words, and its threshold.
-pub fn strong_families(
+// The families by number and the parts in none. Behind their count the head says by what they were listed, if by anything.
+pub fn families(
     rt: &impl Print,
     listing: Listing<'_>,
-    measure: &str,
-    x: usize,
+    by: impl fmt::Display + Drop,
 ) -> io::Result<()> {
-    println!(rt;
-        "{}, {measure} {x} or more",
-        heads::families(listing.n, listing.k)
-    )?;
-    after_head(rt, listing)
-}
-
-// The families of the links so far, which have no threshold.
-pub fn families_now(rt: &impl Print, listing: Listing<'_>) -> io::Result<()> {
-    println!(rt; "{}", heads::families(listing.n, listing.k))?;
-    after_head(rt, listing)
+    println!(rt; "{}{by}", listing.head())?;
+    let seen = lines(rt, listing)?;
+    others(rt, listing.sheet, seen)
 }

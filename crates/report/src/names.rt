@@ -23,7 +23,7 @@ impl fmt::Display for Names<'_> {
     }
 }
 
-// The part of p with this name. No two have the same.
-pub fn find(s: &[u8], word: &[u8], p: usize) -> Option<usize> {
-    (0..p).find(|q| name(s, *q).as_bytes() == word)
+// The part with this name. No two have the same.
+pub fn find(s: &[u8], word: &[u8]) -> Option<usize> {
+    (0..sheet::part_count(s)).find(|q| name(s, *q).as_bytes() == word)
 }

@@ -1,4 +1,5 @@
 // A refusal in words, with this program's number of slots, and where these are too few with the number that the call takes.
+use crate::asked::Asked;
 use crate::limits::SLOTS;
 use answers::{Fault, Refusal};
 use console::{Stopped, refuse};
@@ -7,12 +8,12 @@ pub fn tell(rt: &impl Eprint, s: &[u8], refusal: Refusal) -> Stopped {
     console::tell(rt, s, refusal, SLOTS)
 }
 
-// A refusal of a call that counts the slots of the sequential run at k and t.
-pub fn tell_run(rt: &impl Eprint, s: &[u8], refusal: Refusal, k: usize, t: u16) -> Stopped {
+// A refusal of a call that counts the slots of the sequential run.
+pub fn tell_run(rt: &impl Eprint, s: &[u8], asked: Asked, refusal: Refusal) -> Stopped {
     if refusal.fault != Fault::Slots {
         return tell(rt, s, refusal);
     }
-    match needs::of_sheet(s, k, t) {
+    match needs::of_sheet(s, asked.k, asked.t) {
         Ok(needed) => {
             let n = needed.slots;
             refuse(

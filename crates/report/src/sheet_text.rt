@@ -1,7 +1,7 @@
 // `show`: a sheet as the text that `pack` reads.
 use crate::names::name;
 use crate::refusal::tell;
-use checks::LinkRow;
+use checks::Link;
 use console::{Counted, Stopped};
 use sheet::Counts;
 use std::io;
@@ -15,7 +15,7 @@ fn part_lines(rt: &impl Print, s: &[u8], p: usize) -> io::Result<()> {
 
 fn link_lines(rt: &impl Print, s: &[u8]) -> io::Result<()> {
     for j in 0..sheet::link_count(s) {
-        let LinkRow { low, high, weight } = sheet::link(s, j);
+        let Link { low, high, weight } = sheet::link(s, j);
         println!(rt; "link {} {} {weight}", name(s, low), name(s, high))?;
     }
     Ok(())

@@ -1,4 +1,5 @@
 // `slots`: what a run on a sheet needs, told before it, and how many slots suffice for its part count.
+use crate::asked::Asked;
 use crate::limits::SLOTS;
 use crate::refusal::tell;
 use console::{Counted, Stopped};
@@ -19,7 +20,8 @@ fn tables(rt: &impl Print, n: usize) -> io::Result<()> {
     )
 }
 
-fn needed(rt: &impl Print, needed: Needed, k: usize, t: u16) -> io::Result<()> {
+fn needed(rt: &impl Print, needed: Needed, asked: Asked) -> io::Result<()> {
+    let Asked { k, t } = asked;
     let Needed {
         cliques,
         joins,
@@ -51,9 +53,10 @@ fn own(rt: &impl Print, n: usize) -> io::Result<()> {
     println!(rt; "this program has {SLOTS}")
 }
 
-pub fn slots(rt: &(impl Print + Eprint), s: &[u8], k: usize, t: u16) -> Result<(), Stopped> {
+pub fn slots(rt: &(impl Print + Eprint), s: &[u8], asked: Asked) -> Result<(), Stopped> {
+    let Asked { k, t } = asked;
     let all = needs::of_sheet(s, k, t).map_err(|refusal| tell(rt, s, refusal))?;
-    needed(rt, all, k, t)?;
+    needed(rt, all, asked)?;
     let p = sheet::part_count(s);
     if let Ok(bound) = subsets::slot_bound(p, k) {
         bounded(rt, p, k, bound)?;

@@ -1,31 +1,33 @@
 // `tree`: the merge tree of a sheet, a line for each of its lines.
-use crate::heads;
+use crate::heads::{Head, LINE};
 use crate::names::Names;
 use console::Counted;
 use std::io;
+use tree_lines::Line;
 
-// A line in its 26 bytes.
-fn row(rt: &impl Print, s: &[u8], line: &[u8], number: usize) -> io::Result<()> {
-    print!(rt; "line {number}, weight {}", records::two_at(line, 0))?;
-    match records::four_at(line, 2) {
+fn row(rt: &impl Print, s: &[u8], line: Line, number: usize) -> io::Result<()> {
+    print!(rt; "line {number}, weight {}", line.weight)?;
+    match line.joins {
         0 => print!(rt; ", new")?,
         joins => print!(rt; ", joins {}", Counted(joins, "line"))?,
     }
-    match records::four_at(line, 6) {
+    match line.into {
         0 => {}
         into => print!(rt; ", goes into line {into}")?,
     }
-    println!(rt; ":{}", Names(s, sets::from_bytes(line, 18)))
+    println!(rt; ":{}", Names(s, line.whole))
 }
 
-fn rows(rt: &impl Print, s: &[u8], out: &[u8], n: usize) -> io::Result<()> {
-    for i in 0..n.min(out.len() / 26) {
-        row(rt, s, &out[26 * i..26 * (i + 1)], i + 1)?;
+// By number, as `line_at` reads them.
+fn rows(rt: &impl Print, s: &[u8], lines: &[u8]) -> io::Result<()> {
+    for i in 0..tree_lines::line_count(lines) {
+        row(rt, s, tree_lines::line_at(lines, i), i + 1)?;
     }
     Ok(())
 }
 
-pub fn tree(rt: &impl Print, s: &[u8], k: usize, out: &[u8], n: usize) -> io::Result<()> {
-    println!(rt; "{}", heads::lines(n, k))?;
-    rows(rt, s, out, n)
+pub fn tree(rt: &impl Print, s: &[u8], k: usize, lines: &[u8]) -> io::Result<()> {
+    let n = tree_lines::line_count(lines);
+    println!(rt; "{}", Head(n, LINE, k))?;
+    rows(rt, s, lines)
 }

@@ -1,33 +1,17 @@
 -- A table of counts while the parts of a set are taken from it, the lowest first: what is left to count, from what is there, gives what the whole set
 -- gives from the start. Assumes nothing.
 use mathlib.Core.Path.{◌≡◌, sym, ap, ap₂, ◌∙◌, subst}
-use mathlib.Core.Bool.{Bool, true, false, cond}
+use mathlib.Core.Bool.{true, false}
 use mathlib.Core.List.{List}
 use Prim.Native.Nat.{ℕ, ◌+◌, ◌*◌, ◌^◌, ◌<◌}
-use native.Mathlib.Omega.{arith}
 use lib.Dec.{eqb}
 use lib.ListN.{length, get_or}
 use borrow.Author.Tests.{eqb-true, eqb-false}
 use Rattle.sets.specs.Sets.{out, lowest}
-use Rattle.sets.proofs.Laws.{has_lt, out_lt, out_less}
-use Rattle.sets.proofs.Members.{lowest_has}
+use Rattle.sets.proofs.Laws.{out_lt}
 use Rattle.dump_theory.specs.Model.{RoomWith, Room, raised, counted_with, counted}
 use Rattle.dump_theory.proofs.Counting.{length_raised, length_counted_with, counted_with_none, counted_with_next, counted_none, counted_next}
 use Rattle.dump_theory.proofs.Counted.{room_first, room_raised, room_with, room_next}
-
--- the code's `lowest`, of a set that has parts
-pub lowest_answer : (w s r : ℕ) → eqb s 0 ≡ false → r ≡ cond (eqb s 0) w (lowest s) → r ≡ lowest s
-lowest_answer w s r z e = e ∙ ap (λ (b : Bool). cond b w (lowest s)) z
-
-module _ (s r : ℕ) (z : eqb s 0 ≡ false) (e : r ≡ lowest s) where
-  some : s ≡ 0 → ⊥
-  some = eqb-false s 0 z
-
-  pub part_below : s < 2 ^ 64 → r < 64
-  part_below fits = let h : lowest s < 64 = has_lt 64 (lowest s) s fits (lowest_has s some) in omega arith
-
-  pub fewer : (t : ℕ) → t ≡ out r s → t < s
-  fewer t g = let h : out (lowest s) s < s = out_less (lowest s) s (lowest_has s some) in omega (arith, g, ap (λ (x : ℕ). out x s) e)
 
 -- ---- the pairs of one part
 

@@ -5,6 +5,7 @@ ghost use Rattle.std.specs.Prelude.{◌≡◌, ◌+◌, ◌*◌, ◌^◌, ◌<�
 ghost use Rattle.sets.specs.Value.{num};
 ghost use Rattle.dump_theory.specs.Model.{raised, counted_with, counted, RoomWith, Room};
 
+use checks::pairs;
 use sets::Set;
 
 // One more at the pair of q and r.
@@ -12,7 +13,7 @@ fn raise(counts: &mut [u16], q: usize, r: usize)
     requires { (length counts.old ≡ 4096) × (q < 64) × (r < 64) × (get_or counts.old (q * 64 + r) 0 < 65535) }
     ensures { counts.new ≡ raised counts.old q r }
 {
-    counts[q * 64 + r] += 1;
+    counts[pairs::number(q, r)] += 1;
 }
 
 // One more at the pairs of q and each part of t.
@@ -30,8 +31,7 @@ pub fn count_row(counts: &mut [u16], row: u64)
     requires { (length counts.old ≡ 4096) × Room 65535 counts.old row }
     ensures { counts.new ≡ counted counts.old row }
 {
-    let mut parts = sets::from_word(row).parts();
-    while let Some(q) = parts.next() {
-        count_with(counts, q, parts.left());
+    for (q, rest) in sets::from_word(row).parts_with_rest() {
+        count_with(counts, q, rest);
     }
 }

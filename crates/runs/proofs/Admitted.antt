@@ -6,14 +6,19 @@ use Prim.Native.Nat.{ℕ}
 use Rattle.answers.specs.Verdict.{Verdict, accepted, refused, ◌then◌, unless}
 use Rattle.answers.proofs.Laws.{then_left, then_right, then_stop, then_second, then_third, unless_passed}
 use Rattle.percolation.specs.Ranges.{good_k}
-use Rattle.sheet.specs.Answers.{SheetSaid, sheet_say}
+use Rattle.sheet.specs.Answers.{SheetSaid, holds, sheet_say}
 use Rattle.sheet.specs.Sheet.{check_sheet}
+use Rattle.sheet.proofs.Said.{said_holds}
 use Rattle.slots.specs.Tables.{Tables}
 use Rattle.runs.specs.Lent.{level, check_call}
 
 -- what was said of a view of the tables is said of them
 pub viewed : (s : List ℕ) (k : ℕ) (x : SheetSaid) (T U : Tables) → T ≡ U → x ≡ sheet_say (check_call s k T) s → x ≡ sheet_say (check_call s k U) s
 viewed s k x T U e said = said ∙ ap (λ (X : Tables). sheet_say (check_call s k X) s) e
+
+-- the sheet that is given back is admitted, with the tables that were viewed
+pub admitted : (s b : List ℕ) (k p m : ℕ) (T U : Tables) → T ≡ U → b ≡ s → holds p m ≡ sheet_say (check_call s k T) s → check_call b k U ≡ accepted
+admitted s b k p m T U e f said = ap (λ (x : List ℕ). check_call x k U) f ∙ (said_holds _ s p m (viewed s k (holds p m) T U e said)).0
 
 module _ (s : List ℕ) (k : ℕ) (T : Tables) where
   -- 10 and 11

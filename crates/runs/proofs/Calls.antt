@@ -1,6 +1,6 @@
 -- A call on a sheet with an output by its parts: 15 and the room, refused before 15, and let through. Assumes nothing.
 use mathlib.Core.Path.{◌≡◌, refl, sym, ap, ap₂, ◌∙◌, subst}
-use mathlib.Core.Bool.{Bool, true, false}
+use mathlib.Core.Bool.{Bool, true}
 use mathlib.Core.List.{List}
 use Prim.Native.Nat.{ℕ, ◌≤◌, min}
 use native.Mathlib.Omega.{arith}
@@ -9,10 +9,10 @@ use lib.ListN.{length, take}
 use borrow.Author.Tests.{leb-true, le-leb}
 use Rattle.std.specs.Prelude.{Err}
 use Rattle.answers.specs.Verdict.{Verdict, accepted, refused, ◌then◌, unless}
-use Rattle.answers.specs.Answers.{Answer, refuses, says}
+use Rattle.answers.specs.Answers.{Answer}
 use Rattle.answers.specs.Faults.{number_of}
 use Rattle.answers.specs.declared.Refusal.{Refusal}
-use Rattle.answers.proofs.Laws.{stop, go, then_go, then_stop}
+use Rattle.answers.proofs.Laws.{go, then_go, then_stop}
 use Rattle.sets.specs.Value.{no_rows}
 use Rattle.sets.proofs.Tests.{iff}
 use Rattle.percolation.specs.Percolate.{Community, listing_bytes}
@@ -74,10 +74,6 @@ run_refused fits n B old f e =
     writes_refused (check_run fits B (length old)) n B old (Err f) m f.place (then_stop (unless fits 15 0) (check_out B (length old)) m f.place (sym e)) refl
 
 module _ (fits : Bool) (n : ℕ) (B old : List ℕ) (r : Answer) where
-  pub run_short : fits ≡ false → says r ≡ refuses 15 0 → RunMeets fits n B old r old
-  unfolding check_run
-  run_short e x = writes_refused (check_run fits B (length old)) n B old r 15 0 (stop fits 15 0 _ e) x
-
   pub run_whole : (out : List ℕ) → fits ≡ true → Writes (check_out B (length old)) n B old r out → RunMeets fits n B old r out
   unfolding check_run
   run_whole out e w = writes_same (check_run fits B (length old)) n B old r out _ (go fits 15 0 _ e) w

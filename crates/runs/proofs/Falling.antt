@@ -16,7 +16,6 @@ use Rattle.percolation.specs.Links.{Link, link, heavy}
 use Rattle.percolation.specs.Steps.{legal}
 use Rattle.percolation.proofs.Accepted.{legal_falling}
 use Rattle.percolation.proofs.Levels.{heavy_all, heavy_none}
-use Rattle.runs.proofs.Ran.{take_legal}
 
 -- each of the links weighs t or more
 abbrev pub AllHeavy : ℕ → List Link → Type 0
@@ -83,6 +82,3 @@ module _ (p t : ℕ) (L : List Link) (ok : legal p L ≡ true) where
       go : AllHeavy t (take (length L) L) ⊎ Found → Found
       go (inl a) = (length L, omega arith, take_every p t L ok (length L) refl a)
       go (inr f) = f
-
-  pub heavy_legal : legal p (heavy t L) ≡ true
-  heavy_legal = let r = heavy_first in ap (legal p) (sym r.2) ∙ take_legal p r.0 L ok

@@ -2,6 +2,7 @@ pub mod Admitted
 pub mod Agreed
 pub mod Calls
 pub mod Falling
+pub mod FoundSlot
 pub mod FreeLinks
 pub mod FromZero
 pub mod InSheet

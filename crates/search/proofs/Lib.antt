@@ -6,3 +6,4 @@ pub mod RowLinks
 pub mod SlotTally
 pub mod Tally
 pub mod Turn
+pub mod Walking

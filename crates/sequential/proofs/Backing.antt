@@ -206,18 +206,18 @@ module _ (S : State) (T : Tables) (J : List ℕ) (r : Stepped) (U : Tables) (K :
 
 -- the same from what the code gives
 pub back_meets : (S : State) (T : Tables) (J : List ℕ) → back_number S T J ≡ 0 → (r : Stepped) (U : Tables) (K Q : List ℕ) (n w : ℕ)
-    → n ≡ min S.links journal_length - 1 → Q ≡ rows_with no_rows (readable S.p (take n J)) → U ≡ refilled S.p S.k Q T J n
+    {V : Tables} → n ≡ min S.links journal_length - 1 → Q ≡ rows_with no_rows (readable S.p (take n J)) → U ≡ V → V ≡ refilled S.p S.k Q T J n
     → w ≡ last_weight (map entry_link (take n J)) → K ≡ set J n 0 → says r.answer ≡ counts 0 → r.state ≡ state S.p S.k U.used w n Q
     → BackMeets S T J r U K
 unfolding fewer back_links back_tables back_state back_journal
-back_meets S T J z r U K Q n w i q t v j a f =
+back_meets S T J z r U K Q n w i q at t v j a f =
     back_accepted S T J r U K z a (f ∙ (λ x. state S.p S.k (made x).used (weight x) (i x) (rows x))) made (j ∙ ap (λ (x : ℕ). set J x 0) i)
   where
     rows : Q ≡ rows_with no_rows (readable S.p (take (min S.links journal_length - 1) J))
     rows = q ∙ ap (λ (x : ℕ). rows_with no_rows (readable S.p (take x J))) i
 
     made : U ≡ refilled S.p S.k (rows_with no_rows (readable S.p (take (min S.links journal_length - 1) J))) T J (min S.links journal_length - 1)
-    made = t ∙ (λ x. refilled S.p S.k (rows x) T J (i x))
+    made = at ∙ t ∙ (λ x. refilled S.p S.k (rows x) T J (i x))
 
     weight : w ≡ last_weight (map entry_link (take (min S.links journal_length - 1) J))
     weight = v ∙ ap (λ (x : ℕ). last_weight (map entry_link (take x J))) i

@@ -308,9 +308,10 @@ module _ (S : State) (T : Tables) (J : List ℕ) (l : Link) (narrow : l.weight <
 
 -- the same from what the code gives: rows, tables and journal apart
 pub taken_meets : (S : State) (T : Tables) (J : List ℕ) (l : Link) → l.weight < 65536 → insert_number S T J l ≡ 0 → (r : Stepped) (U : Tables) (K R : List ℕ)
-    (n w : ℕ) → U ≡ took_all T (new_cliques S.rows S.k l.low l.high) → R ≡ marked S.rows l.low l.high → n ≡ min (suc S.links) journal_length
+    (n w : ℕ) {V : Tables} → U ≡ V → V ≡ took_all T (new_cliques S.rows S.k l.low l.high) → R ≡ marked S.rows l.low l.high → n ≡ min (suc S.links) journal_length
     → K ≡ set J S.links (journal_entry l) → w ≡ l.weight → says r.answer ≡ counts 0 → r.state ≡ state S.p S.k U.used w n R
     → InsertMeets S T J l r U K
 unfolding inserted_state inserted_tables inserted_journal
-taken_meets S T J l narrow z r U K R n w t m i j v a s =
-    accepted_meets S T J l narrow r U K z a (s ∙ (λ x. state S.p S.k (t x).used (v x) (i x) (m x))) t j
+taken_meets S T J l narrow z r U K R n w at t m i j v a s =
+    let same = at ∙ t in
+    accepted_meets S T J l narrow r U K z a (s ∙ (λ x. state S.p S.k (same x).used (v x) (i x) (m x))) same j

@@ -7,15 +7,16 @@ ghost use Rattle.answers.specs.Faults.{number_of};
 ghost use Rattle.answers.specs.Model.{verdict};
 ghost use Rattle.sets.specs.Value.{no_rows};
 ghost use Rattle.slots.specs.Lent.{tables_of, tables_in, SameLent};
-ghost use Rattle.journal.specs.Link.{as_link};
+ghost use Rattle.checks.specs.Model.{as_link};
 ghost use Rattle.sequential.specs.Steps.{state, check_start, StartMeets, InsertMeets, BackMeets, ListingNowMeets};
 
 use answers::{Answer, Fault, Refusal};
-pub use journal::Link;
-use slots::{Lent, View};
+pub use checks::Link;
+use slots::{Lent, SlotList, View};
 use states::State;
 
 // What a step gives back: its answer, and the state for the next one.
+// The state stands beside the answer and not in its Ok: that of a refusal is promised too, and C gets both.
 #[derive(Clone, Copy)]
 pub struct Stepped {
     pub answer: Answer,
@@ -91,7 +92,12 @@ pub fn insert(state: State, tables: &mut Lent, journal: &mut [u64], link: Link) 
         return refused(fault, state);
     }
     let mut rows = state.rows;
-    let used = runs::take_link(&mut rows, tables, state.used, state.k, link.low, link.high);
+    let mut slots = SlotList {
+        tables,
+        used: state.used,
+    };
+    runs::take_link(&mut rows, &mut slots, state.k, link);
+    let used = slots.used;
     let links = journal::add(journal, state.links, link);
     let weight = usize::from(link.weight);
     Stepped {
@@ -117,8 +123,9 @@ pub fn take_back(state: State, tables: &mut Lent, journal: &mut [u64]) -> Steppe
     }
     let p = state.p;
     let links = journal::one_less(state.links);
-    let last = journal::last_weight(journal, links);
-    let rows = journal::rows_of(journal, links, p);
+    let before = &journal[..links];
+    let last = journal::last_weight(before);
+    let rows = journal::rows_of(before, p);
     let used = journal::refill(journal, links, p, state.k, state.used, &rows, tables);
     journal::put(journal, links, 0);
     Stepped {

@@ -290,9 +290,6 @@ pub size_out : (q n : ℕ) → has q n ≡ true → size (out q n) + 1 ≡ size 
 unfolding out
 size_out q n e = omega (arith, size_minus n (one q), size_one q, ap size (meet_old q n e))
 
-pub into_old : (q n : ℕ) → has q n ≡ true → into q n ≡ n
-into_old q n e = ext (into q n) n (λ k. has_into k q n ∙ or_absorb (has k n) (eqb k q) (λ t. ap (λ (x : ℕ). has x n) (eqb-true k q t) ∙ e))
-
 pub into_has : (q n : ℕ) → has q (into q n) ≡ true
 into_has q n = has_into q q n ∙ go (has q n) (eq-eqb q q refl)
   where
@@ -407,21 +404,6 @@ sub_one q n = go (has q n) refl (sub (one q) n) refl
     go false e false f = refl
     go true e false f = sym f ∙ has_sub (one q) n (λ k t. ap (λ (z : ℕ). has z n) (eqb-true k q (sym (has_one k q) ∙ t)) ∙ e)
     go false e true f = sym (sub_has q (one q) n f (has_one q q ∙ eq-eqb q q refl)) ∙ e
-
-pub sub_single : (w q n : ℕ) → n < 2 ^ w → sub (cond (ltb q w) (one q) 0) n && ltb q w ≡ has q n
-sub_single w q n h = go (lt_or_le q w)
-  where
-    yes_and : (x : Bool) → x && true ≡ x
-    yes_and true = refl
-    yes_and false = refl
-
-    no_and : (x : Bool) → x && false ≡ false
-    no_and true = refl
-    no_and false = refl
-
-    go : (q < w) ⊎ (w ≤ q) → sub (cond (ltb q w) (one q) 0) n && ltb q w ≡ has q n
-    go (inl l) = rw (lt-ltb q w l) (yes_and (sub (one q) n) ∙ sub_one q n)
-    go (inr l) = rw (le-ltb q w l) (no_and (sub 0 n) ∙ sym (has_above w q n h l))
 
 -- ---- a part more and a part less, by the lowest digit and the rest
 

@@ -1,6 +1,6 @@
 -- The bytes of a number and of a set: how many they are and which, written one after the other over lent space, and read back. Assumes nothing.
 use mathlib.Core.Path.{◌≡◌, refl, sym, ap, ap₂, ◌∙◌}
-use mathlib.Core.Bool.{true, false}
+use mathlib.Core.Bool.{Bool, true, false, cond}
 use mathlib.Core.Logic.{◌⊎◌, inl, inr}
 use mathlib.Core.List.{List, [], ◌∷◌, ◌++◌, append_assoc, foldl}
 use Prim.Native.Nat.{ℕ, zero, suc, ◌+◌, ◌-◌, ◌*◌, ◌/◌, ◌%◌, ◌^◌, ◌≤◌, ◌<◌}
@@ -15,7 +15,7 @@ use Rattle.std.proofs.Common.{length-take}
 use Rattle.std.proofs.lemmas.Nat.{be_bytes_8}
 use Rattle.std.specs.Int.{w64, bytes_high_first, from_be_bytes}
 use Rattle.sets.specs.Value.{width, bytes, set_bytes, set_length, from_bytes, with_set, set_at}
-use Rattle.sets.proofs.Tests.{lt_or_le, cond_go, cond_stop}
+use Rattle.sets.proofs.Tests.{lt_or_le, iff, cond_go, cond_stop}
 
 pub bytes_length : (m n : ℕ) → length (bytes m n) ≡ m
 unfolding bytes
@@ -158,3 +158,20 @@ at_reads src k m r a b n e l h =
     ∙ ap (take set_length) (drop_at a (set_bytes n ++ b) k l) ∙ take_at (set_bytes n) b set_length (set_length_lem n) in
     r ∙ sym (cond_go (leb (k + set_length) (length src)) (from_bytes (bytes_at src k)) 0 (le-leb (k + set_length) (length src) long) refl)
     ∙ ap from_bytes there ∙ from_bytes_lem set_length n h
+
+-- the low ones of some bytes of a number
+pub low_bytes : (k n m x : ℕ) → m ≡ k + n → drop k (bytes m x) ≡ bytes n x
+unfolding bytes
+low_bytes zero n m x e = ap (λ (j : ℕ). bytes j x) (let f : m ≡ n = omega arith in f)
+low_bytes (suc k) n zero x e = absurd (omega arith)
+low_bytes (suc k) n (suc m) x e = low_bytes k n m x (omega arith)
+
+-- a set read behind the first n bytes
+pub set_behind : (b : List ℕ) (n i : ℕ) → set_at (drop n b) i ≡ set_at b (n + i)
+unfolding set_at
+set_behind b n i =
+    ap₂ (λ (t : Bool) (x : List ℕ). cond t (from_bytes (take set_length x)) 0)
+    (iff (leb (i + set_length) (length (drop n b))) (leb (n + i + set_length) (length b))
+    (λ t. le-leb (n + i + set_length) (length b) (omega (arith, length-drop n b, leb-true (i + set_length) (length (drop n b)) t)))
+    (λ t. le-leb (i + set_length) (length (drop n b)) (omega (arith, length-drop n b, leb-true (n + i + set_length) (length b) t))))
+    (drop-drop i n b)

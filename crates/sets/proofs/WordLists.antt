@@ -4,14 +4,14 @@ use mathlib.Core.List.{List, [], ◌∷◌, ◌++◌}
 use mathlib.Core.Path.{◌≡◌, refl, sym, ap, ap₂, ◌∙◌, subst}
 use mathlib.Core.Logic.{◌⊎◌, inl, inr}
 use Prim.Native.Nat.{ℕ, zero, suc, ◌+◌, ◌-◌, ◌*◌, ◌/◌, ◌%◌, ◌^◌, ◌≤◌, ◌<◌, min}
-use native.Mathlib.Nat.{mul_assoc, mod-eq_of_lt, mod-lt, div-eq_of_lt, zero-mul, zero-add, add-zero}
+use native.Mathlib.Nat.{mul_assoc, mod-eq_of_lt, mod-lt, div-eq_of_lt, zero-mul}
 use native.Mathlib.Numerals.{add-one}
 use native.Mathlib.Omega.{arith}
 use borrow.Author.Tests.{eq-eqb, ne_eqb, lt-ltb, le-ltb, ltb-true}
 use lib.Dec.{eqb, ltb}
 use lib.ListN.{length, get_or, set, length-append, length-set}
 use lib.Seq.{sets, get_or-set_same, get_or-set_other}
-use lib.Pow.{pow_pos, pow_mono, pow-add, low, mod-pow-add, field, mod-mod-pow, shr-shr}
+use lib.Pow.{pow_pos, pow_mono, pow-add, mod-pow-add, field, mod-mod-pow, shr-shr}
 use Rattle.sets.specs.Sets.{bit, has, one, full, meet, union, minus, size, before, lowest}
 use Rattle.sets.specs.Words.{number, words, words_at}
 use Rattle.sets.proofs.Glue.{glue, glue_lt, glue_above, glue_below, meet_glue, union_glue, minus_glue, size_glue, before_above, before_below, lowest_low, lowest_high}
@@ -30,9 +30,6 @@ fits_length (more h f) = ap suc (fits_length f)
 
 pub fits_first : {n w : ℕ} {ws : List ℕ} → Fits (suc n) (w ∷ ws) → w < 2 ^ 64
 fits_first (more h f) = h
-
-pub fits_rest : {n w : ℕ} {ws : List ℕ} → Fits (suc n) (w ∷ ws) → Fits n ws
-fits_rest (more h f) = f
 
 -- the highest word, and the number of the others
 pub number_cons : (w n : ℕ) (ws : List ℕ) → length ws ≡ n → number (w ∷ ws) ≡ glue (64 * n) w (number ws)
@@ -53,11 +50,6 @@ number_lt (more {n = n} {w = w} {ws = ws} h f) =
     let e : 64 + 64 * n ≡ 64 * suc n = omega arith in
     subst (λ (k : ℕ). number (w ∷ ws) < 2 ^ k) e
     (subst (λ (x : ℕ). x < 2 ^ (64 + 64 * n)) (sym (number_cons w n ws (fits_length f))) (glue_lt 64 (64 * n) w (number ws) h (number_lt f)))
-
--- words that are 0 above the others
-pub number_zero : (ws : List ℕ) → number (0 ∷ ws) ≡ number ws
-unfolding number
-number_zero ws = ap (λ (x : ℕ). x + number ws) (zero-mul (2 ^ (64 * length ws))) ∙ zero-add (number ws)
 
 -- ---- two sets, word by word
 
@@ -135,13 +127,6 @@ number_inj (more {n = n} {w = x} {ws = xs} h a) (more {w = y} {ws = ys} k b) e =
 -- sets are the same exactly where all their words are
 pub same_apart : {n : ℕ} {xs ys : List ℕ} → Fits n xs → Fits n ys → (xs ≡ ys → ⊥) → false ≡ eqb (number xs) (number ys)
 same_apart {xs = xs} {ys = ys} a b p = sym (ne_eqb (number xs) (number ys) (λ e. p (number_inj a b e)))
-
-pub same_first : {n : ℕ} {xs ys : List ℕ} (x y : ℕ) → Fits (suc n) (x ∷ xs) → Fits (suc n) (y ∷ ys) → xs ≡ ys → eqb x y ≡ eqb (number (x ∷ xs)) (number (y ∷ ys))
-same_first {xs = xs} {ys = ys} x y a b e = go (same_or_not x y)
-  where
-    go : (x ≡ y) ⊎ (x ≡ y → ⊥) → eqb x y ≡ eqb (number (x ∷ xs)) (number (y ∷ ys))
-    go (inl z) = eq-eqb x y z ∙ sym (eq-eqb (number (x ∷ xs)) (number (y ∷ ys)) (ap₂ (λ (v : ℕ) (l : List ℕ). number (v ∷ l)) z e))
-    go (inr z) = ne_eqb x y z ∙ same_apart a b (λ q. z (ap (λ (l : List ℕ). get_or l 0 0) q))
 
 -- ---- the lowest part: the lowest word decides where it has one, else the others
 
@@ -257,20 +242,6 @@ module _ (q f : ℕ) where
 
       same : (i : ℕ) → i < 64 → has i (one (q - f)) ≡ has i (one q / 2 ^ f % 2 ^ 64)
       same i b = has_one i (q - f) ∙ go i (same_or_not i (q - f)) ∙ sym (has_word i f (one q) b ∙ has_one (f + i) q)
-
--- the set of q alone, as far as w digits hold it
-one_over : (w q : ℕ) → w ≤ q → one q % 2 ^ w ≡ 0
-unfolding one
-one_over w q h =
-    ap (λ (k : ℕ). 2 ^ k % 2 ^ w) (let e : q ≡ q - w + w = omega arith in e)
-    ∙ ap (λ (x : ℕ). x % 2 ^ w) (pow-add 2 (q - w) w ∙ sym (add-zero (2 ^ (q - w) * 2 ^ w))) ∙ low (2 ^ (q - w)) w (pow_pos w)
-
-pub one_mod : (w q : ℕ) → one q % 2 ^ w ≡ cond (ltb q w) (one q) 0
-one_mod w q = go (lt_or_le q w)
-  where
-    go : (q < w) ⊎ (w ≤ q) → one q % 2 ^ w ≡ cond (ltb q w) (one q) 0
-    go (inl h) = mod-eq_of_lt (one_lt w q h) ∙ sym (ap (λ (b : Bool). cond b (one q) 0) (lt-ltb q w h))
-    go (inr h) = one_over w q h ∙ sym (ap (λ (b : Bool). cond b (one q) 0) (le-ltb q w h))
 
 pub full_lt : (p w : ℕ) → p ≤ w → full p < 2 ^ w
 full_lt p w h = parts_lt w (full p) (λ q t. let l : q < p = ltb-true q p (sym (has_full q p) ∙ t) in omega arith)

@@ -9,7 +9,7 @@ ghost use Rattle.sets.specs.Rest.{left_of, rest};
 
 mod walk;
 
-pub use walk::Iter;
+pub use walk::{Iter, WithRest};
 
 // Its word is nobody else's to see: a wider set changes this crate alone.
 #[derive(Clone, Copy, Debug, PartialEq, Eq, PartialOrd, Ord)]
@@ -99,6 +99,7 @@ pub fn without(s: Set, q: usize) -> Set
 pub fn count(s: Set) -> usize
     ensures { result ≡ size (num s) }
 {
+    // `as`, here and below: from u32 to usize there is no From.
     s.word.count_ones() as usize
 }
 
@@ -109,20 +110,22 @@ pub fn subset(s: Set, t: Set) -> bool
     s.word & t.word == s.word
 }
 
-// Whether s comes before t: sets stand in the order of their numbers.
+// Whether s comes before t: sets stand in the order of their numbers. Beside `<`: `before` is said here, docs/ARCHITECTURE.md and
+// the edit of another order name it.
 pub fn less(s: Set, t: Set) -> bool
     ensures { result ≡ before (num s) (num t) }
 {
     s < t
 }
 
+// Beside `==`: docs/ARCHITECTURE.md names it.
 pub fn same(s: Set, t: Set) -> bool
     ensures { result ≡ eqb (num s) (num t) }
 {
     s == t
 }
 
-// The lesser of two sets.
+// The lesser of two sets. Beside `min` for the same reason.
 pub fn lesser(s: Set, t: Set) -> Set
     ensures { num result ≡ lesser (num s) (num t) }
 {
@@ -130,6 +133,7 @@ pub fn lesser(s: Set, t: Set) -> Set
 }
 
 // The lowest part, and 64 for the empty set.
+// 64 and no Option: this promise is named in docs/ARCHITECTURE.md and stays.
 pub fn lowest(s: Set) -> usize
     ensures { result ≡ cond (eqb (num s) 0) width (lowest (num s)) }
 {
@@ -161,6 +165,16 @@ impl Set {
     {
         Iter { set: self }
     }
+
+    // The parts, each with the set of those behind it, the lowest first.
+    pub fn parts_with_rest(self) -> WithRest
+        ensures left { left_of result.parts ≡ num self }
+        ensures gives { rest result.parts ≡ members width (num self) }
+    {
+        WithRest {
+            parts: self.parts(),
+        }
+    }
 }
 
 // The set of one word, and the word of a set, for the C interface. A wider set will take more words.
@@ -176,7 +190,7 @@ pub fn word(s: Set) -> u64
     s.word
 }
 
-// How many parts a set can hold.
+// How many parts a set can hold. No const: that has no contract to say `width`.
 pub fn most() -> usize
     ensures { result ≡ width }
 {
@@ -217,6 +231,7 @@ pub fn at(table: &[u64], i: usize) -> Set
 }
 
 // s at i of a table; past its end nothing changes.
+// By an index: of a slice's get_mut a proof knows the length, and not what was written.
 pub fn put(table: &mut [u64], i: usize, s: Set)
     ensures { table.new ≡ store table.old i (num s) }
 {

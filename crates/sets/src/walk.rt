@@ -1,4 +1,4 @@
-// An iterator over the parts of a set.
+// Iterators over the parts of a set.
 ghost use Rattle.std.specs.Prelude.{◌≡◌, ◌<◌, ◌^◌};
 ghost use Rattle.std.specs.Iterator.{YieldsFirst, item_count};
 ghost use Rattle.sets.specs.Value.{width, num};
@@ -39,5 +39,26 @@ impl Iterator for Iter {
         let q = crate::lowest(self.set);
         *self = crate::without(self.set, q).parts();
         Some(q)
+    }
+}
+
+// The same, each part with the set of those behind it.
+#[derive(Drop)]
+pub struct WithRest {
+    pub(crate) parts: Iter,
+}
+
+impl Iterator for WithRest {
+    ghost use Rattle.sets.specs.Rest.{rest, GivesWithRest};
+
+    type Item = (usize, Set);
+
+    ghost next_gives = { λ s r t. GivesWithRest s.parts r t.parts };
+
+    ghost remaining = { λ s. item_count rest s.parts };
+
+    fn next(&mut self) -> Option<(usize, Set)> {
+        let q = self.parts.next()?;
+        Some((q, self.parts.left()))
     }
 }

@@ -5,6 +5,7 @@ use Rattle.answers.specs.Faults.{number_of}
 use Rattle.answers.specs.declared.Refusal.{Refusal}
 use Rattle.answers.specs.Answers.{Said, counts, refuses}
 use Rattle.sheet.specs.declared.Counts.{Counts}
+use Rattle.sheet.specs.declared.checked_sheet.Checked.{Checked}
 use Rattle.sheet.specs.declared.PartName.{PartName}
 use Rattle.sheet.specs.Sheet.{parts, links, name_at, name_of, check_sheet}
 
@@ -16,6 +17,11 @@ pub data SheetSaid : Type 0 where
 abbrev pub sheet_says : Result Counts Refusal → SheetSaid
 sheet_says (Ok c) = holds c.parts c.links
 sheet_says (Err r) = faulty (number_of r.fault) r.place
+
+-- the same of a sheet that is given back with its counts
+abbrev pub checked_says : Result Checked Refusal → SheetSaid
+checked_says (Ok c) = holds c.counts.parts c.counts.links
+checked_says (Err r) = faulty (number_of r.fault) r.place
 
 -- what is right to say of the sheet s where the verdict is v
 unfoldable pub sheet_say : Verdict → List ℕ → SheetSaid

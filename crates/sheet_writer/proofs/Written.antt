@@ -4,7 +4,7 @@ use mathlib.Core.List.{[], List, ◌∷◌, ◌++◌}
 use Prim.Native.Nat.{ℕ, suc, ◌+◌, ◌*◌, ◌/◌, ◌%◌, ◌≤◌}
 use native.Mathlib.Omega.{arith}
 use native.Mathlib.Numerals.{add-one}
-use lib.ListN.{length, drop}
+use lib.ListN.{length, drop, set}
 use lib.Seq.{sets}
 use Rattle.sets.specs.Value.{bytes}
 use Rattle.sets.proofs.SetBytes.{one_byte, two_bytes}
@@ -26,6 +26,13 @@ use Rattle.sheet.proofs.Lists.{list_of_none, list_of_more, list_of_length}
 pub link_put : (low high weight : ℕ) → link_bytes (link low high weight) ≡ low % 256 ∷ high % 256 ∷ bytes 2 weight
 unfolding link_bytes
 link_put low high weight = ap₂ (λ (x y : List ℕ). x ++ y ++ bytes 2 weight) (one_byte low) (one_byte high)
+
+-- single bytes one after the other, then more
+pub ones_then : (out : List ℕ) (k low high : ℕ) (y : List ℕ)
+    → sets (sets (sets out k (bytes 1 low)) (k + 1) (bytes 1 high)) (k + 2) y ≡ sets out k (low % 256 ∷ high % 256 ∷ y)
+ones_then out k low high y =
+    ap₂ (λ (a b : List ℕ). sets (sets (sets out k a) (k + 1) b) (k + 2) y) (one_byte low) (one_byte high)
+    ∙ ap₂ (λ (i j : ℕ). sets (set (set out k (low % 256)) i (high % 256)) j y) (add-one k) (let e : k + 2 ≡ suc (suc k) = omega arith in e)
 
 pub link_bytes_lem : (low high weight : ℕ) → link_bytes (link low high weight) ≡ low % 256 ∷ high % 256 ∷ weight / 256 % 256 ∷ weight % 256 ∷ []
 link_bytes_lem low high weight = link_put low high weight ∙ ap (λ (z : List ℕ). low % 256 ∷ high % 256 ∷ z) (two_bytes weight)

@@ -6,7 +6,7 @@ ghost use mathlib.Core.List.{◌++◌, map, flatten};
 ghost use Rattle.std.proofs.lemmas.List.Edits.{sets};
 ghost use Rattle.answers.specs.Verdict.{in_order};
 ghost use Rattle.answers.specs.Model.{verdict};
-ghost use Rattle.checks.specs.Model.{link_row};
+ghost use Rattle.checks.specs.Model.{as_link};
 ghost use Rattle.sets.specs.Value.{width};
 ghost use Rattle.sheet.specs.Lent.{network_in};
 ghost use Rattle.sheet.specs.Sheet.{head_length, sheet_length, list_of};
@@ -24,7 +24,7 @@ ghost use Rattle.sheet_writer.specs.Writing.{
 };
 
 use answers::{Answer, Fault, Refusal};
-use checks::LinkRow;
+use checks::Link;
 use sheet::Network;
 
 #[tactic(auto, unfolding(crate::specs::Writing::has_shape))]
@@ -39,14 +39,14 @@ fn has_shape(network: Network) -> bool
 
 // Link j.
 #[tactic(auto, unfolding(crate::specs::Writing::link_in))]
-fn link(network: Network, j: usize) -> LinkRow
+fn link(network: Network, j: usize) -> Link
     requires { (j < length network.lower.now) × SameLength network }
-    ensures { (link_row result ≡ link_in (network_in network.entry) j) × (result.weight < 65536) }
+    ensures { as_link result ≡ link_in (network_in network.entry) j }
 {
-    LinkRow {
+    Link {
         low: usize::from(network.lower[j]),
         high: usize::from(network.higher[j]),
-        weight: usize::from(network.weights[j]),
+        weight: network.weights[j],
     }
 }
 
@@ -58,11 +58,12 @@ fn network_links(network: Network) -> Result<(), Refusal>
     let p = network.names.len() / 8;
     let mut seen = sets::no_rows();
     let mut before = 65535;
+    // By number, as below: three lists that C lends.
     for j in 0..network.lower.len() {
         let l = link(network, j);
         checks::check_link(&seen, p, l, before)?;
-        checks::add_link(&mut seen, l.low, l.high);
-        before = l.weight;
+        checks::add_link(&mut seen, l);
+        before = usize::from(l.weight);
     }
     Ok(())
 }
@@ -80,14 +81,13 @@ fn check_network(network: Network) -> Result<(), Refusal>
 }
 
 // Writes the four bytes of a link at k.
-#[tactic(auto, using(crate::proofs::Written::link_put))]
-fn put_link(out: &mut [u8], k: usize, link: LinkRow)
+fn put_link(out: &mut [u8], k: usize, link: Link)
     requires { k + 4 ≤ length out.old }
-    ensures { out.new ≡ sets out.old k (link_bytes (link_row link)) }
+    ensures { out.new ≡ sets out.old k (link_bytes (as_link link)) }
 {
-    out[k] = (link.low % 256) as u8;
-    out[k + 1] = (link.high % 256) as u8;
-    records::put_two(out, k + 2, link.weight);
+    records::put::<1>(out, k, link.low);
+    records::put::<1>(out, k + 1, link.high);
+    records::put::<2>(out, k + 2, usize::from(link.weight));
 }
 
 // Writes the links' bytes to the start of out.
@@ -98,6 +98,7 @@ fn put_links(network: Network, out: &mut [u8])
     ensures { let m = length network.entry.lower.now in out.new ≡ flatten (map link_bytes (list_of (link_in (network_in network.entry)) m)) ++ drop (4 * m) out.old }
 {
     let count = network.lower.len();
+    // By number: the C interface lends a link in three lists.
     for j in 0..count {
         put_link(out, 4 * j, link(network, j));
     }
@@ -111,9 +112,9 @@ fn put_head(out: &mut [u8], p: usize, m: usize)
     out[0] = b'P';
     out[1] = b'L';
     out[2] = b'S';
-    records::put_two(out, 3, 1);
-    out[5] = (p % 256) as u8;
-    records::put_two(out, 6, m);
+    records::put::<2>(out, 3, 1);
+    records::put::<1>(out, 5, p);
+    records::put::<2>(out, 6, m);
 }
 
 // Writes a network's sheet to the start of out.

@@ -2,21 +2,16 @@
 use mathlib.Core.Path.{◌≡◌}
 use mathlib.Core.Bool.{Bool, true, false, ◌&&◌}
 use mathlib.Core.Logic.{◌⊎◌, inl, inr}
-use Prim.Native.Nat.{ℕ, suc, ◌≤◌, ◌<◌}
+use Prim.Native.Nat.{ℕ, ◌≤◌, ◌<◌}
 use lib.Dec.{ltb}
-use lib.ListN.{set}
 use borrow.Author.Tests.{lt-ltb, le-ltb}
 use Rattle.sets.specs.Sets.{union, lesser}
 use Rattle.sets.specs.Value.{row, store}
 use Rattle.sets.proofs.Tests.{no_and, lt_or_le}
 use Rattle.joining.specs.Entries.{root_of}
 use Rattle.slots.specs.Tables.{Tables, tables, room}
+pub use Rattle.slots.specs.Model.{appended}
 use Rattle.slots.specs.Model.{find, joined, placed, joined_used, touched}
-
--- the tables with the set s of the clique Q in the first slot that is not used, a class of its own
-abbrev pub appended : Tables → ℕ → ℕ → Tables
-appended T s Q =
-    tables (store T.sets T.used s) (set T.entries T.used T.used) (store T.smallest T.used Q) (store T.unions T.used Q) (suc T.used)
 
 -- the tables with the clique Q counted in at the end of slot f
 abbrev pub counted : Tables → ℕ → ℕ → Tables
@@ -38,6 +33,13 @@ module _ (T : Tables) (s Q : ℕ) where
   pub placed_new : T.used ≤ find T.sets T.used s → T.used < room T.entries → placed T s Q ≡ appended T s Q
   unfolding placed
   placed_new h l = rw (placed, le-ltb (find T.sets T.used s) T.used h, lt-ltb T.used (room T.entries) l)
+
+  pub placed_none : room T.entries ≤ T.used → placed T s Q ≡ T
+  placed_none l = go (lt_or_le (find T.sets T.used s) T.used)
+    where
+      go : (find T.sets T.used s < T.used) ⊎ (T.used ≤ find T.sets T.used s) → placed T s Q ≡ T
+      go (inl h) = placed_old h
+      go (inr h) = placed_full h l
 
   -- a slot is placed only where there is room, or nothing changes
   pub placed_cases : (P : Tables → Type 0) → P T → (T.used < room T.entries → P (appended T s Q)) → P (placed T s Q)

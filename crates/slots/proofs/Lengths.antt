@@ -49,10 +49,6 @@ kept_level T U k l = record {
   unions = sized_same U.unions T.unions _ _ k.unions k.entries ∙ l.unions;
 }
 
--- what is used after a step fits
-pub fits_after : (T U V : Tables) → U ≡ V → Kept T V → T.used ≤ room T.entries → U.used ≤ room U.entries
-fits_after T U V e k h = rw e (k.fits h)
-
 -- such tables have a row for each entry
 module _ (T : Tables) (l : Level T) where
   pub level_sets : rows T.sets ≡ length T.entries

@@ -2,23 +2,22 @@
 use mathlib.Core.Path.{◌≡◌, sym, ap, ap₂, ◌∙◌}
 use mathlib.Core.Logic.{◌⊎◌}
 use mathlib.Core.List.{List}
-use Prim.Native.Nat.{ℕ, ◌+◌, ◌≤◌, ◌<◌, min, max}
-use native.Mathlib.Numerals.{add-one}
+use Prim.Native.Nat.{ℕ, ◌≤◌, ◌<◌, min, max}
 use lib.ListN.{set}
 use Rattle.sets.specs.Sets.{union, out, lesser}
 use Rattle.sets.specs.Value.{row, store}
 use Rattle.joining.specs.Entries.{root_of}
-use Rattle.slots.specs.Tables.{Tables, tables, room}
+use Rattle.slots.specs.Tables.{Tables, tables}
 use Rattle.joining.specs.Model.{halved}
 use Rattle.slots.specs.Model.{find, low_root, high_root, merged, joined, placed, joined_used, took_part, touched}
-use Rattle.slots.proofs.Cases.{placed_new, joined_both, joined_idle, touched_used}
+use Rattle.slots.proofs.Cases.{joined_both, joined_idle, touched_used}
 use Rattle.joining.proofs.Follow.{halved_root}
 
 -- ---- joining
 
-pub merged_is : (f : ℕ → ℕ → ℕ) (xs ys : List ℕ) (lo hi a b n : ℕ) → a ≡ row xs lo → b ≡ row xs hi → n ≡ f a b → ys ≡ store xs lo n → ys ≡ merged f xs lo hi
+pub merged_is : (f : ℕ → ℕ → ℕ) (xs ys : List ℕ) (lo hi b : ℕ) → b ≡ row xs hi → ys ≡ store xs lo (f (row xs lo) b) → ys ≡ merged f xs lo hi
 unfolding merged
-merged_is f xs ys lo hi a b n p q e s = s ∙ ap (store xs lo) (e ∙ ap₂ f p q)
+merged_is f xs ys lo hi b q s = s ∙ ap (λ (x : ℕ). store xs lo (f (row xs lo) x)) q
 
 -- what `join` writes, from what it found
 module _ (es fs gs : List ℕ) (i j a b lo hi : ℕ) (p : a ≡ root_of es i) (fs-is : fs ≡ halved es i) (q : b ≡ root_of fs j) (gs-is : gs ≡ halved fs j)
@@ -40,11 +39,6 @@ module _ (es fs gs : List ℕ) (i j a b lo hi : ℕ) (p : a ≡ root_of es i) (f
   join_is S ms us n m u = rw (m, u, gs-is, fs-is, low_is, high_is)
 
 -- ---- a slot placed, and joined
-
-pub place_new : (T : Tables) (s Q : ℕ) → T.used ≤ find T.sets T.used s → T.used < room T.entries → {S m u : List ℕ}
-    → S ≡ store T.sets T.used s → m ≡ store T.smallest T.used Q → u ≡ store T.unions T.used Q
-    → tables S (set T.entries T.used T.used) m u (T.used + 1) ≡ placed T s Q
-place_new T s Q absent free a b c = rw (a, b, c, add-one) (sym (placed_new T s Q absent free))
 
 -- a part of the clique: U are the tables with its slot
 module _ (P U : Tables) (f i : ℕ) (p : U ≡ P) where

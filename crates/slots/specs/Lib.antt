@@ -1,3 +1,4 @@
 pub mod Lent
+pub mod List
 pub mod Model
 pub mod Tables

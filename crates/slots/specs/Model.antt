@@ -40,16 +40,18 @@ joined T i j =
     (merged union T.unions (low_root T.entries i j) (high_root T.entries i j))
     T.used
 
+-- the set s of the clique Q in the first slot that is not used, a class of its own
+abbrev pub appended : Tables → ℕ → ℕ → Tables
+appended T s Q =
+    tables (store T.sets T.used s) (set T.entries T.used T.used) (store T.smallest T.used Q) (store T.unions T.used Q) (suc T.used)
+
 -- a slot for s, a part of the clique Q: the one that holds it, else a new one, of a class of its own, where there is room
 unfoldable pub placed : Tables → ℕ → ℕ → Tables
 unfolding find room store
 placed T s Q =
     elim (ltb (find T.sets T.used s) T.used) [
       | true ↦ T
-      | false ↦ elim (ltb T.used (room T.entries)) [
-        | true ↦ tables (store T.sets T.used s) (set T.entries T.used T.used) (store T.smallest T.used Q) (store T.unions T.used Q) (suc T.used)
-        | false ↦ T
-      ]
+      | false ↦ elim (ltb T.used (room T.entries)) [ true ↦ appended T s Q | false ↦ T ]
     ]
 
 -- slots f and i joined, where both are used

@@ -1,15 +1,18 @@
 #![tactic(auto)]
 
 // The four lent tables of the sequential run: slots found, placed and joined.
-ghost use Rattle.std.specs.Prelude.{◌≡◌, length, ℕ, ◌<◌, ◌^◌};
+ghost use Rattle.std.specs.Prelude.{◌≡◌, length, ℕ, ◌+◌, ◌<◌, ◌^◌};
 ghost use Rattle.sets.specs.declared.Set.{Set};
-ghost use Rattle.sets.specs.Sets.{out, lowest};
-ghost use Rattle.sets.specs.Value.{num, store, number_at};
+ghost use Rattle.sets.specs.Value.{num, row, store, number_at};
 ghost use Rattle.percolation.specs.Ranges.{most_slots};
 ghost use Rattle.slots.specs.Tables.{room};
 ghost use Rattle.slots.specs.Lent.{tables_of, tables_in, SameLent};
-ghost use Rattle.slots.specs.Model.{find, merged, joined, placed};
+ghost use Rattle.slots.specs.List.{Finds};
+ghost use Rattle.slots.specs.Model.{joined, appended};
 
+mod list;
+
+pub use list::SlotList;
 use sets::Set;
 
 // The four lent tables: a set, a joining entry, a smallest clique and a union for each slot.
@@ -22,6 +25,7 @@ pub struct Lent<'a> {
 }
 
 // The same, only to be read.
+// Two types, since no parameter of a type says whether its fields are lent to be written. Four lists, as C lends them.
 #[derive(Clone, Copy)]
 pub struct View<'a> {
     pub sets: &'a [u64],
@@ -42,13 +46,6 @@ impl Lent<'_> {
         }
     }
 
-    // As find, of the lent sets.
-    pub fn find(&self, used: usize, s: Set) -> usize
-        ensures { result ≡ find self.now.sets.now used (num s) }
-    {
-        find(self.sets, used, s)
-    }
-
     // As room, of the lent entries.
     pub fn room(&self) -> usize
         ensures { result ≡ room self.now.entries.now }
@@ -57,32 +54,25 @@ impl Lent<'_> {
     }
 }
 
-// The used slot that holds s; where there is none, the first that is not used.
-pub fn find(sets: &[u64], used: usize, s: Set) -> usize
-    ensures { result ≡ find sets.now used (num s) }
+// The used slot that holds s. Slots stand in the order in which they came: nothing to search by halves.
+fn find(sets: &[u64], used: usize, s: Set) -> Option<usize>
+    ensures { Finds result sets.now used (num s) }
 {
     for slot in 0..used {
         if sets::same(sets::at(sets, slot), s) {
-            return slot;
+            return Some(slot);
         }
     }
-    used
+    None
 }
 
-// The slot of s less its lowest part.
-pub fn slot_of(sets: &[u64], used: usize, s: Set) -> usize
-    ensures { result ≡ find sets.now used (out (lowest (num s)) (num s)) }
-{
-    find(sets, used, sets::without(s, sets::lowest(s)))
-}
-
-// Row lo becomes f of rows lo and hi.
-fn merge<F: Fn(Set, Set) -> Set>(table: &mut [u64], lo: usize, hi: usize, f: F)
+// Row r becomes f of itself and s.
+pub fn merge<F: Fn(Set, Set) -> Set>(table: &mut [u64], r: usize, s: Set, f: F)
     requires { F.IsAlwaysCallable f }
-    ensures { (g : ℕ → ℕ → ℕ) → ((s t u : Set) → F.post f s t u → num u ≡ g (num s) (num t)) → table.new ≡ merged g table.old lo hi }
+    ensures { (g : ℕ → ℕ → ℕ) → ((s t u : Set) → F.post f s t u → num u ≡ g (num s) (num t)) → table.new ≡ store table.old r (g (row table.old r) (num s)) }
 {
-    let s = f(sets::at(table, lo), sets::at(table, hi));
-    sets::put(table, lo, s);
+    let merged = f(sets::at(table, r), s);
+    sets::put(table, r, merged);
 }
 
 // Makes the classes of slots i and j one, whatever the slots hold: the lower root stays one, and gets the lesser smallest clique and the union of
@@ -96,9 +86,27 @@ pub fn join(tables: &mut Lent, i: usize, j: usize)
     let b = joining::halve(tables.entries, j);
     let lo = a.min(b);
     let hi = a.max(b);
+    // `as`: slot numbers lie below the room, which is proved to fit an entry; u32 has no From<usize>.
     tables.entries[hi] = lo as u32;
-    merge(tables.smallest, lo, hi, sets::lesser);
-    merge(tables.unions, lo, hi, sets::union);
+    let smallest = &mut *tables.smallest;
+    let s = sets::at(smallest, hi);
+    merge(smallest, lo, s, sets::lesser);
+    let unions = &mut *tables.unions;
+    let s = sets::at(unions, hi);
+    merge(unions, lo, s, sets::union);
+}
+
+// Slot i, the first that is not used, holds s, a part of the clique q, and is a class of its own.
+// Its cast as in `join`.
+fn append(tables: &mut Lent, i: usize, s: Set, q: Set)
+    requires { i < room tables.old.entries.now }
+    ensures lent { SameLent tables.old tables.new }
+    ensures tables_after { tables_of tables.new (i + 1) ≡ appended (tables_of tables.old i) (num s) (num q) }
+{
+    sets::put(tables.sets, i, s);
+    tables.entries[i] = i as u32;
+    sets::put(tables.smallest, i, q);
+    sets::put(tables.unions, i, q);
 }
 
 // However long the tables are, no more slots are used.
@@ -115,26 +123,6 @@ pub fn room(entries: &[u32]) -> usize
     entries.len().min(most_slots())
 }
 
-// A slot for s, a part of the clique q, where i is what find says of s: the one that holds it, else a new one, of a class of its own, where
-// there is room. Gives how many slots are used then. For sister crates: i is found first.
-pub fn place(tables: &mut Lent, used: usize, i: usize, s: Set, q: Set) -> usize
-    requires { i ≡ find tables.old.sets.now used (num s) }
-    ensures lent { SameLent tables.old tables.new }
-    ensures tables_after { tables_of tables.new result ≡ placed (tables_of tables.old used) (num s) (num q) }
-{
-    if i < used {
-        return used;
-    }
-    if tables.room() <= used {
-        return used;
-    }
-    sets::put(tables.sets, used, s);
-    tables.entries[used] = used as u32;
-    sets::put(tables.smallest, used, q);
-    sets::put(tables.unions, used, q);
-    used + 1
-}
-
 // ---- free rows
 //
 // Smallest and union of a used slot that is no end: no step reads or writes them (`free_kept` of slots_theory), and what the tables show does not turn
@@ -146,6 +134,7 @@ pub fn place(tables: &mut Lent, used: usize, i: usize, s: Set, q: Set) -> usize
 // - `smallest` at the rest: nobody's yet, for an index of slots.
 
 // The number that stands in the free row i of `smallest` or `unions`, and n put there.
+// Named apart from `number_at` of sets: which rows are free is known here.
 pub fn note_at(table: &[u64], i: usize) -> u64
     ensures { result ≡ number_at table.now i }
 {

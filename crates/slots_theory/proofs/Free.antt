@@ -10,9 +10,8 @@ use native.Mathlib.Omega.{arith}
 use lib.ListN.{length}
 use Rattle.sets.specs.Lists.{◌∈◌}
 use Rattle.sets.specs.Sets.{has, out, size, sub, lowest, members, sets_of}
-use Rattle.sets.specs.Value.{width, row, store, number_at}
+use Rattle.sets.specs.Value.{width, row, store}
 use Rattle.sets.proofs.Tests.{never, lt_or_le}
-use Rattle.sets.proofs.RowNumbers.{number_same}
 use Rattle.sets.proofs.Tables.{sized_same, row_other}
 use Rattle.sets.proofs.Laws.{out_sub}
 use Rattle.sets.proofs.Parts.{out_keeps, out_lacks, one_lacking, another}
@@ -138,11 +137,6 @@ module _ (T : Tables) (Q : ℕ) (fits : T.used ≤ room T.entries) where
   pub free_kept : (i : ℕ) → i < T.used → (root_of T.entries i ≡ i → ⊥)
       → (row (took_in T Q).smallest i ≡ row T.smallest i) × (row (took_in T Q).unions i ≡ row T.unions i)
   free_kept i l n = (took_stays.smallest i l n, took_stays.unions i l n)
-
-  -- and so the numbers that stand there
-  pub notes_kept : (i : ℕ) → i < T.used → (root_of T.entries i ≡ i → ⊥)
-      → (number_at (took_in T Q).smallest i ≡ number_at T.smallest i) × (number_at (took_in T Q).unions i ≡ number_at T.unions i)
-  notes_kept i l n = (number_same _ _ i i (free_kept i l n).0, number_same _ _ i i (free_kept i l n).1)
 
 -- ---- what tables show does not turn on the free rows
 

@@ -5,17 +5,18 @@ ghost use Rattle.std.specs.Prelude.{◌≡◌, ◌≤◌};
 ghost use Rattle.answers.specs.Model.{fault_number};
 ghost use Rattle.slots.specs.Tables.{room};
 ghost use Rattle.slots.specs.Lent.{tables_in};
-ghost use Rattle.journal.specs.Link.{as_link};
+ghost use Rattle.checks.specs.Model.{as_link};
 ghost use Rattle.states.specs.States.{good_state};
 ghost use Rattle.states.specs.Model.{state_number, link_step, journal_number, insert_number, back_number};
 
 use answers::Fault;
-use journal::Link;
+use checks::Link;
 use sets::Rows;
 use slots::View;
 
 // What goes from step to step beside tables and journal: p, k, how many slots are used, the last weight (65,535 with no link), how many links remain, and
 // the neighbours of each part.
+// 65,535 and no Option, since C reads it.
 #[repr(C)]
 #[derive(Clone, Copy)]
 pub struct State {
@@ -62,7 +63,7 @@ fn check_link(state: State, entries: &[u32], link: Link) -> Result<(), Fault>
     ensures { fault_number result ≡ link_step state entries.now (as_link link) }
 {
     let rows = state.rows;
-    checks::check_link(&rows, state.p, link.into(), state.last)?;
+    checks::check_link(&rows, state.p, link, state.last)?;
     let more = search::new_slots(&rows, state.k, link.low, link.high);
     if slots::room(entries) - state.used < more {
         return Err(Fault::Slots);

@@ -5,12 +5,14 @@
 ghost use Rattle.std.specs.Prelude.{◌≡◌, length};
 
 use answers::Answer;
-use console::{field, text};
 use sequential::{Link, Stepped};
-use slots::{Lent, View};
+use slots::Lent;
 use states::State;
+use std::{fmt, io};
+use trial::{Left, Listed, Refused};
 
 // One link more, or the last one taken back, for which a script has a link from part 255.
+// An enum, since it is read from a script.
 #[derive(Clone, Copy, Debug, PartialEq, Eq)]
 enum Step {
     Insert(Link),
@@ -27,6 +29,15 @@ impl From<Link> for Step {
     }
 }
 
+impl fmt::Display for Step {
+    fn fmt<W: fmt::Write>(&self, f: &mut fmt::Formatter<W>) -> fmt::Result {
+        match *self {
+            Step::Insert(Link { low, high, weight }) => write!(f, "{low}-{high} of {weight}"),
+            Step::TakeBack => f.write_str("taken back"),
+        }
+    }
+}
+
 impl Step {
     // A link of four bytes, as in a sheet.
     fn of_bytes(link: &[u8]) -> Step
@@ -39,17 +50,6 @@ impl Step {
         })
     }
 
-    fn show(self) {
-        match self {
-            Step::Insert(link) => {
-                field(b"", link.low);
-                field(b"-", link.high);
-                field(b" of ", usize::from(link.weight));
-            }
-            Step::TakeBack => text(b"taken back"),
-        }
-    }
-
     fn run(self, state: State, tables: &mut Lent, journal: &mut [u64]) -> Stepped {
         match self {
             Step::Insert(link) => sequential::insert(state, tables, journal, link),
@@ -58,89 +58,132 @@ impl Step {
     }
 }
 
-// Whether a step was accepted.
-fn accepted(a: Answer) -> bool {
-    match a {
-        Ok(_) => {
-            text(b": accepted");
-            true
-        }
-        Err(r) => {
-            text(b": ");
-            trial::refused(r);
-            false
+#[derive(Clone, Copy)]
+struct Answered(Answer);
+
+impl fmt::Display for Answered {
+    fn fmt<W: fmt::Write>(&self, f: &mut fmt::Formatter<W>) -> fmt::Result {
+        match self.0 {
+            Ok(_) => f.write_str("accepted"),
+            Err(r) => write!(f, "{}", Refused(r)),
         }
     }
 }
 
 // A start.
-fn begin(p: usize, k: usize, tables: &mut Lent, journal: &mut [u64]) -> State {
-    field(b"start p ", p);
-    field(b" k ", k);
-    let r = sequential::start(p, k, tables, journal);
-    accepted(r.answer);
-    trial::left(tables.view());
-    r.state
+fn begin(
+    rt: &impl Print,
+    p: usize,
+    k: usize,
+    tables: &mut Lent,
+    journal: &mut [u64],
+) -> io::Result<State> {
+    let Stepped { answer, state } = sequential::start(p, k, tables, journal);
+    println!(rt;
+        "start p {p} k {k}: {}{}",
+        Answered(answer),
+        Left(tables.view())
+    )?;
+    Ok(state)
 }
 
-// What became of a step. What the tables hold after an accepted one is open.
-fn became(a: Answer, before: &[u64; 4000], tables: View) {
-    if accepted(a) {
-        text(b"\n");
-    } else if trial::same(before, &trial::copied(0, tables)) {
-        text(b", tables as before\n");
-    } else {
-        text(b", tables written\n");
+// What became of a step, and whether the tables are as they were. What they hold after an accepted one is open.
+#[derive(Clone, Copy)]
+struct Became {
+    step: Step,
+    answer: Answer,
+    as_before: bool,
+}
+
+impl fmt::Display for Became {
+    fn fmt<W: fmt::Write>(&self, f: &mut fmt::Formatter<W>) -> fmt::Result {
+        let Became {
+            step,
+            answer,
+            as_before,
+        } = *self;
+        let tables = match answer {
+            Ok(_) => "",
+            Err(_) if as_before => ", tables as before",
+            Err(_) => ", tables written",
+        };
+        write!(f, "{step}: {}{tables}", Answered(answer))
     }
 }
 
 // An entry of the journal, as the link that it stands for.
-fn in_journal(label: &[u8], journal: &[u64], i: usize) {
-    text(label);
-    Step::from(Link::from(journal::at(journal, i))).show();
+fn in_journal(journal: &[u64], i: usize) -> Step {
+    Step::from(journal::link_of(journal::at(journal, i)))
 }
 
 // What remains after a step: how many links, the last weight, the slots in use, and the entries of the journal around the last link's.
-fn remains(state: State, journal: &[u64]) {
-    field(b"links ", state.links);
-    field(b", last ", state.last);
-    field(b", slots ", state.used);
-    if 0 < state.links {
-        in_journal(b", journal ", journal, state.links - 1);
+fn remains(rt: &impl Print, state: State, journal: &[u64]) -> io::Result<()> {
+    let State {
+        links,
+        last,
+        used,
+        ..
+    } = state;
+    print!(rt; "links {links}, last {last}, slots {used}")?;
+    if 0 < links {
+        print!(rt; ", journal {}", in_journal(journal, links - 1))?;
     }
-    in_journal(b", then ", journal, state.links);
-    text(b"\n");
+    println!(rt; ", then {}", in_journal(journal, links))
 }
 
 // The row of a step.
-fn row(step: Step, state: State, tables: &mut Lent, journal: &mut [u64]) -> State {
+fn row(
+    rt: &impl Print,
+    step: Step,
+    state: State,
+    tables: &mut Lent,
+    journal: &mut [u64],
+) -> io::Result<State> {
     let before = trial::copied(0, tables.view());
-    step.show();
-    let r = step.run(state, tables, journal);
-    became(r.answer, &before, tables.view());
+    let Stepped { answer, state } = step.run(state, tables, journal);
+    let as_before = trial::same(&before, &trial::copied(0, tables.view()));
+    println!(rt;
+        "{}",
+        Became {
+            step,
+            answer,
+            as_before,
+        }
+    )?;
     if step == Step::TakeBack {
-        remains(r.state, journal);
+        remains(rt, state, journal)?;
     }
-    r.state
+    Ok(state)
 }
 
 // Steps of four bytes each.
-fn inserts(start: State, links: &[u8], tables: &mut Lent, journal: &mut [u64]) -> State {
+fn inserts(
+    rt: &impl Print,
+    start: State,
+    links: &[u8],
+    tables: &mut Lent,
+    journal: &mut [u64],
+) -> io::Result<State> {
     let mut state = start;
     for link in links.chunks_exact(4) {
-        state = row(Step::of_bytes(link), state, tables, journal);
+        state = row(rt, Step::of_bytes(link), state, tables, journal)?;
     }
-    state
+    Ok(state)
 }
 
 // A start, inserts and takings back, and the listing now. Gives back the last state.
-pub fn steps(p: usize, k: usize, links: &[u8], tables: &mut Lent, out: &mut [u8]) -> State {
+pub fn steps(
+    rt: &impl Print,
+    p: usize,
+    k: usize,
+    links: &[u8],
+    tables: &mut Lent,
+    out: &mut [u8],
+) -> io::Result<State> {
     let mut journal = [9u64; 2016];
-    let start = begin(p, k, tables, &mut journal);
-    let state = inserts(start, links, tables, &mut journal);
-    text(b"listing now: ");
-    let a = sequential::listing_now(state, tables.view(), out);
-    trial::listed(a, out);
-    text(b"\n");
-    state
+    let start = begin(rt, p, k, tables, &mut journal)?;
+    let state = inserts(rt, start, links, tables, &mut journal)?;
+    let answer = sequential::listing_now(state, tables.view(), out);
+    println!(rt; "listing now: {}", Listed(answer, out))?;
+    Ok(state)
 }

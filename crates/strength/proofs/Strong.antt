@@ -1,7 +1,6 @@
 -- The run on an admitted sheet: 15 for the clique list by all k-cliques, and then the listing of the family that the list gives is that of the strong cliques
 -- of the definition. Assumes nothing.
 use mathlib.Core.Path.{◌≡◌, sym, ap, ◌∙◌, subst}
-use mathlib.Core.Logic.{◌⊎◌, inl, inr}
 use mathlib.Core.Bool.{Bool, true, false, ◌&&◌}
 use mathlib.Core.List.{List, map}
 use Prim.Native.Nat.{ℕ, ◌≤◌, ◌<◌}
@@ -9,14 +8,13 @@ use native.Mathlib.Omega.{arith}
 use lib.Dec.{leb}
 use lib.ListN.{length, take}
 use lib.Ieee.{Float}
-use borrow.Author.Tests.{le-leb, lt-leb}
 use Rattle.answers.specs.Verdict.{accepted, refused, unless}
 use Rattle.answers.specs.Answers.{Answer}
 use Rattle.sets.specs.Lists.{◌∈◌, keep, below}
 use Rattle.sets.specs.Sets.{size, sets_of}
 use Rattle.sets.specs.Value.{width, rows, row, no_rows}
-use Rattle.answers.proofs.Laws.{last_go, accepted_not}
-use Rattle.sets.proofs.Tests.{and_stop, lt_or_le}
+use Rattle.answers.proofs.Laws.{last_stop}
+use Rattle.sets.proofs.Tests.{and_stop}
 use Rattle.sets.proofs.ListLaws.{Holds, keep_at, keep_of, keep_same}
 use Rattle.percolation.specs.Percolate.{Community, communities, listing_bytes}
 use Rattle.percolation.specs.Links.{Link, cliques, slots}
@@ -76,12 +74,8 @@ module _ (s : List ℕ) (k : ℕ) (M : Measure) (b : Bool) (ok : check_strength 
   list_short n h = sym (and_stop (leb (length (cliques L p k)) r) _ (stored_many L p R legals wide near k r c T S held h))
 
   -- as the code says it
-  pub list_refused : (n x y : ℕ) → refused x y ≡ unless (leb c r) 15 0 → refused x y ≡ unless (fits_strength s k M r n) 15 0
-  list_refused n x y e = go (lt_or_le r c)
-    where
-      go : (r < c) ⊎ (c ≤ r) → refused x y ≡ unless (fits_strength s k M r n) 15 0
-      go (inl h) = e ∙ ap (λ (b : Bool). unless b 15 0) (lt-leb c r h ∙ sym (list_short n h))
-      go (inr h) = accepted_not x y (e ∙ last_go (leb c r) 15 0 (le-leb c r h))
+  pub list_refused : (n : ℕ) → r < c → refused 15 0 ≡ unless (fits_strength s k M r n) 15 0
+  list_refused n h = sym (last_stop (fits_strength s k M r n) 15 0 (list_short n h))
 
   -- the cliques of the list that the table of weights W finds strong
   module _ (h : c ≤ r) (long : r ≤ rows T) (W : List ℕ) (weighs : Weighs (links_of s) W) where

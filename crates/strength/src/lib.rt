@@ -3,7 +3,6 @@
 // The listing of a sheet by clique strength: the communities of the k-cliques whose weakest link or product is at or above a threshold.
 ghost use Rattle.std.specs.Prelude.{◌≡◌, length};
 ghost use Rattle.answers.specs.Verdict.{accepted};
-ghost use Rattle.sheet.specs.Sheet.{parts, links};
 ghost use Rattle.slots.specs.Lent.{tables_of, SameLent};
 ghost use Rattle.clique_list.specs.Lent.{SameList};
 ghost use Rattle.strong_checks.specs.OnSheet.{list_of, level_all, check_strength, StrengthRuns, StrengthMeets};
@@ -11,34 +10,33 @@ ghost use Rattle.strong_checks.specs.OnSheet.{list_of, level_all, check_strength
 use answers::{Answer, Fault};
 use clique_list::CliqueList;
 use products::Measure;
-use sheet::Counts;
+use sheet::Checked;
 use slots::Lent;
 
 // The k-cliques of an admitted sheet into the clique list, their products, and the listing of the strong ones, in a list and tables that it leaves anyhow:
 // 15, 16.
 fn run(
-    sheet: &[u8],
-    counts: Counts,
+    sheet: Checked,
     k: usize,
     measure: Measure,
     list: &mut CliqueList,
     tables: &mut Lent,
     out: &mut [u8],
 ) -> Answer
-    requires { (check_strength sheet.now k measure (level_all (list_of list.old) (tables_of tables.old 0)) ≡ accepted)
-        × (counts.parts ≡ parts sheet.now) × (counts.links ≡ links sheet.now) }
+    requires { check_strength sheet.bytes.now k measure (level_all (list_of list.old) (tables_of tables.old 0)) ≡ accepted }
     ensures lent { SameLent tables.old tables.new }
     ensures list { SameList list.old list.new }
-    ensures runs { StrengthRuns sheet.now k measure (length list.old.products.now) (length tables.old.entries.now) out.old result out.new }
+    ensures runs { StrengthRuns sheet.entry.bytes.now k measure (length list.old.products.now) (length tables.old.entries.now) out.old result out.new }
 {
-    let rows = runs::rows_of(sheet, counts.links);
+    let rows = runs::rows_of(sheet, sheet.counts.links);
     let room = list.products.len();
-    let n = clique_list::store_cliques(&rows, list.cliques, room, counts.parts, k);
-    answers::require(n <= room, Fault::Slots, 0)?;
+    let n = clique_list::store_cliques(&rows, list.cliques, room, sheet.counts.parts, k).ok_or(
+        Fault::Slots,
+    )?;
     let mut table = [0u16; 4096];
-    weights::fill(sheet, counts.links, &mut table);
+    weights::fill(sheet, &mut table);
     clique_list::score_cliques(&table, list, n);
-    let sure = strong_checks::is_sure(sheet, counts, k, measure, tables.view().entries);
+    let sure = strong_checks::is_sure(sheet, k, measure, tables.view().entries);
     strong_listing::list(measure, &table, list.view(), n, sure, tables, out)
 }
 
@@ -58,8 +56,8 @@ pub fn listing(
         out.old result (list_of list.new) (tables_of tables.new 0) out.new }
 {
     let level = strong_checks::level(list.view(), tables.view());
-    let counts = strong_checks::admit(sheet, k, measure, level)?;
-    let answer = run(sheet, counts, k, measure, list, tables, out);
+    let checked = strong_checks::admit(sheet, k, measure, level)?;
+    let answer = run(checked, k, measure, list, tables, out);
     strong_checks::clear_list(list);
     runs::clear(tables);
     answer

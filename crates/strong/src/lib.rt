@@ -8,31 +8,21 @@ use answers::{Answer, Fault, Refusal};
 use clique_list::CliqueList;
 use console::{Stopped, refuse};
 use products::Measure;
-use report::{Listing, SLOTS, strong_families, tell};
-use slots::Lent;
+use report::{Asked, Listing, SLOTS, families, in_tables, tell};
+use std::fmt;
 
 // Any listing: a family has two slots or more to itself, and 16 bytes.
 const SPACE: usize = 8 * SLOTS;
 
 // The call, in a clique list and tables of its own.
-fn in_tables(s: &[u8], k: usize, measure: Measure, out: &mut [u8; SPACE]) -> Answer {
+fn in_lists(s: &[u8], k: usize, measure: Measure, out: &mut [u8; SPACE]) -> Answer {
     let mut cliques = [0u64; SLOTS];
     let mut products = [0.0f64; SLOTS];
     let mut list = CliqueList {
         cliques: &mut cliques,
         products: &mut products,
     };
-    let mut sets = [0u64; SLOTS];
-    let mut entries = [0u32; SLOTS];
-    let mut smallest = [0u64; SLOTS];
-    let mut unions = [0u64; SLOTS];
-    let mut tables = Lent {
-        sets: &mut sets,
-        entries: &mut entries,
-        smallest: &mut smallest,
-        unions: &mut unions,
-    };
-    strength::listing(s, k, measure, &mut list, &mut tables, out)
+    in_tables(|tables| strength::listing(s, k, measure, &mut list, tables, out))
 }
 
 // 15 is about cliques too here; 22 and 23 are told by no other call. 23 cannot come from a number that is typed: its words stand for whoever hands on
@@ -50,30 +40,29 @@ fn tell_strong(rt: &impl Eprint, s: &[u8], refusal: Refusal) -> Stopped {
     }
 }
 
-// The threshold stands in the measure too; x is what was typed.
+// The head says the measure with its threshold as it was typed.
 fn answer(
     rt: &(impl Print + Eprint),
     s: &[u8],
     k: usize,
     measure: Measure,
-    words: &str,
-    x: usize,
+    by: impl fmt::Display + Drop,
     out: &mut [u8; SPACE],
 ) -> Result<(), Stopped> {
-    let n = in_tables(s, k, measure, out).map_err(|refusal| tell_strong(rt, s, refusal))?;
-    let sheet = s;
-    strong_families(rt, Listing { sheet, k, out, n }, words, x)?;
+    let n = in_lists(s, k, measure, out).map_err(|refusal| tell_strong(rt, s, refusal))?;
+    families(rt, Listing::new(s, k, out, n), by)?;
     Ok(())
 }
 
 // The families of cliques whose weakest link weighs t or more.
-pub fn weakest(rt: &(impl Print + Eprint), s: &[u8], k: usize, t: u16) -> Result<(), Stopped> {
+pub fn weakest(rt: &(impl Print + Eprint), s: &[u8], asked: Asked) -> Result<(), Stopped> {
+    let Asked { k, t } = asked;
     let mut out = [0u8; SPACE];
-    let measure = Measure::Weakest(t);
-    answer(rt, s, k, measure, "weakest link", usize::from(t), &mut out)
+    let by = format_args!(", weakest link {t} or more");
+    answer(rt, s, k, Measure::Weakest(t), by, &mut out)
 }
 
-// A whole number as a float, which holds each up to 2^53 exactly.
+// A whole number as a float, which holds each up to 2^53 exactly. `as`, since no From leads from usize to u64.
 pub fn threshold(x: usize) -> f64
     ensures { result ≡ float_of x }
 {
@@ -83,6 +72,6 @@ pub fn threshold(x: usize) -> f64
 // The families of cliques whose product is x or more.
 pub fn product(rt: &(impl Print + Eprint), s: &[u8], k: usize, x: usize) -> Result<(), Stopped> {
     let mut out = [0u8; SPACE];
-    let measure = Measure::Product(threshold(x));
-    answer(rt, s, k, measure, "product", x, &mut out)
+    let by = format_args!(", product {x} or more");
+    answer(rt, s, k, Measure::Product(threshold(x)), by, &mut out)
 }

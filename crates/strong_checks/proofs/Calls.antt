@@ -1,12 +1,11 @@
 -- The call by its parts: the checks before 15 and what they show, refused before 15, and let through. Assumes nothing.
-use mathlib.Core.Path.{◌≡◌, refl, sym, ap, ap₂, ◌∙◌}
+use mathlib.Core.Path.{◌≡◌, sym, ap, ap₂, ◌∙◌}
 use mathlib.Core.Bool.{Bool, true, false, not}
 use mathlib.Core.List.{List}
-use Prim.Native.Nat.{ℕ, ◌*◌}
+use Prim.Native.Nat.{ℕ}
 use lib.Dec.{leb}
 use lib.ListN.{length, replicate}
-use lib.Ieee.{Float, nan, inf, fin, eq, is_nan, up, down}
-use borrow.Author.Tests.{eq-eqb}
+use lib.Ieee.{Float, is_nan}
 use Rattle.std.specs.Prelude.{Err}
 use Rattle.answers.specs.Verdict.{Verdict, accepted, refused, ◌then◌, unless}
 use Rattle.answers.specs.Answers.{Answer}
@@ -40,15 +39,6 @@ use Rattle.strong_checks.specs.OnSheet.{
   StrengthRuns,
   StrengthMeets,
 }
-
--- only a NaN differs from itself
-pub own_equal : (t : Float) → eq t t ≡ not (is_nan t)
-unfolding eq is_nan
-own_equal nan = refl
-own_equal (inf true) = refl
-own_equal (inf false) = refl
-own_equal (fin true m e) = rw (eq-eqb (m * up e * down e) (m * up e * down e) refl)
-own_equal (fin false m e) = rw (eq-eqb (m * up e * down e) (m * up e * down e) refl)
 
 -- ---- 22 and 23
 

@@ -6,12 +6,10 @@ use mathlib.Core.Bool.{Bool, true, false}
 use mathlib.Core.List.{List}
 use Prim.Native.Nat.{ℕ, ◌≤◌, ◌<◌}
 use native.Mathlib.Omega.{arith}
-use lib.Dec.{leb}
 use lib.ListN.{length}
-use borrow.Author.Tests.{le-leb, lt-leb}
 use Rattle.sets.specs.Value.{width}
 use Rattle.sets.proofs.Tests.{lt_or_le}
-use Rattle.percolation.specs.Percolate.{communities}
+use Rattle.percolation.specs.Percolate.{Community, communities}
 use Rattle.percolation.specs.Links.{slots}
 use Rattle.percolation.specs.Steps.{enough}
 use Rattle.percolation.proofs.Accepted.{cliques_none}
@@ -28,8 +26,7 @@ use Rattle.percolating.proofs.Fitting.{all_fitting}
 
 module _ (p k : ℕ) (wide : p ≤ width) (two : 2 ≤ k) (F : List ℕ) (family : Family p k F) (T : Tables) (ok : level T ≡ true)
     (sure : Bool) (plenty : sure ≡ true → enough (length T.entries) (slots p k F) ≡ true)
-    (Z U : Tables) (zero : Z ≡ cleared T) (took : U ≡ took_each sure Z F) (kept : length U.entries ≡ length T.entries) (y : ℕ)
-    (space : y ≡ room U.entries) where
+    (Z U : Tables) (zero : Z ≡ cleared T) (took : U ≡ took_each sure Z F) (kept : length U.entries ≡ length T.entries) where
   fitting : (slots p k F ≤ room (cleared T).entries → Shows p k F (took_each sure (cleared T) F))
       × (room (cleared T).entries < slots p k F → room (cleared T).entries < (took_each sure (cleared T) F).used)
   fitting =
@@ -40,8 +37,8 @@ module _ (p k : ℕ) (wide : p ≤ width) (two : 2 ≤ k) (F : List ℕ) (family
   same : U ≡ took_each sure (cleared T) F
   same = took ∙ ap (λ (X : Tables). took_each sure X F) zero
 
-  is_room : y ≡ room T.entries
-  is_room = space ∙ same_room T.entries U.entries kept
+  is_room : room U.entries ≡ room T.entries
+  is_room = same_room T.entries U.entries kept
 
   shows : slots p k F ≤ room T.entries → Shows p k F U
   shows l = subst (Shows p k F) (sym same) (fitting.0 (omega (arith, cleared_room T)))
@@ -49,30 +46,27 @@ module _ (p k : ℕ) (wide : p ≤ width) (two : 2 ≤ k) (F : List ℕ) (family
   over : room T.entries < slots p k F → room T.entries < U.used
   over l = omega (arith, ap (λ (X : Tables). X.used) same, fitting.1 (omega (arith, cleared_room T)), cleared_room T)
 
-  pub family_short : y < U.used → enough (length T.entries) (slots p k F) ≡ false
+  pub family_short : room U.entries < U.used → enough (length T.entries) (slots p k F) ≡ false
   family_short h = go (lt_or_le (room T.entries) (slots p k F))
     where
       go : (room T.entries < slots p k F) ⊎ (slots p k F ≤ room T.entries) → enough (length T.entries) (slots p k F) ≡ false
       go (inl l) = enough_short T.entries (slots p k F) l
-      go (inr l) = absurd (omega (arith, (shows l).fits, space))
+      go (inr l) = absurd (omega (arith, (shows l).fits))
 
-  fits : U.used ≤ y → slots p k F ≤ room T.entries
+  fits : U.used ≤ room U.entries → slots p k F ≤ room T.entries
   fits h = go (lt_or_le (room T.entries) (slots p k F))
     where
       go : (room T.entries < slots p k F) ⊎ (slots p k F ≤ room T.entries) → slots p k F ≤ room T.entries
       go (inl l) = absurd (omega (arith, over l, is_room))
       go (inr l) = l
 
-  pub family_fits : U.used ≤ y → enough (length T.entries) (slots p k F) ≡ true
+  pub family_fits : U.used ≤ room U.entries → enough (length T.entries) (slots p k F) ≡ true
   family_fits h = enough_room T.entries (slots p k F) (fits h)
 
-  -- what the code tests for 15
-  pub family_tells : leb U.used y ≡ enough (length T.entries) (slots p k F)
-  family_tells = go (lt_or_le y U.used)
-    where
-      go : (y < U.used) ⊎ (U.used ≤ y) → leb U.used y ≡ enough (length T.entries) (slots p k F)
-      go (inl h) = lt-leb U.used y h ∙ sym (family_short h)
-      go (inr h) = le-leb U.used y h ∙ sym (family_fits h)
-
-  pub family_listed : U.used ≤ y → listed U.entries U.smallest U.unions U.used ≡ communities k F
+  pub family_listed : U.used ≤ room U.entries → listed U.entries U.smallest U.unions U.used ≡ communities k F
   family_listed h = listed_communities p k F U family (omega (arith, two)) (shows (fits h))
+
+-- of the tables T, which are U
+pub tables_listed : {T U : Tables} {C : List Community} → T ≡ U → listed U.entries U.smallest U.unions U.used ≡ C
+    → listed T.entries T.smallest T.unions T.used ≡ C
+tables_listed e c = ap (λ (X : Tables). listed X.entries X.smallest X.unions X.used) e ∙ c

@@ -13,7 +13,7 @@ ghost use Rattle.strong_listing.specs.Model.{ListsFamily};
 use answers::{Answer, Fault};
 use clique_list::CliqueView;
 use products::Measure;
-use slots::Lent;
+use slots::{Lent, SlotList};
 
 // The listing of the strong ones of the first n cliques of the list, in tables that it leaves anyhow: 15 where one has no slots, unless it is sure that all
 // have, then 16. For sister crates: 11 shows what is required of the tables and of n, and the products are those of the cliques beside them.
@@ -32,7 +32,8 @@ pub fn list(
         (length tables.old.entries.now) out.old result out.new }
 {
     runs::clear(tables);
-    let used = percolating::percolate(measure, weights, list, n, sure, tables);
-    answers::require(used <= tables.room(), Fault::Slots, 0)?;
+    let mut slots = SlotList { tables, used: 0 };
+    percolating::percolate(measure, weights, list, n, sure, &mut slots).ok_or(Fault::Slots)?;
+    let used = slots.used;
     listings::list_roots(tables.view(), used, out)
 }

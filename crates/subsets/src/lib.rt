@@ -13,6 +13,7 @@ fn product(n: usize, r: usize) -> usize
     ensures { result ≡ subset_count n r }
 {
     let mut c = 1;
+    // No fold: a closure knows nothing of what came before, and so not that the product stays in a word.
     for i in 0..r {
         c = c * (n - i) / (i + 1);
     }

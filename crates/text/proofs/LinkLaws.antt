@@ -21,7 +21,7 @@ use Rattle.checks.specs.Neighbours.{Neighbours}
 use Rattle.checks.proofs.Near.{near_more}
 use Rattle.checks.specs.Model.{marked}
 use Rattle.link_order.specs.Order.{LinkLists, has_room, put_link}
-use Rattle.link_order.specs.Lent.{as_link}
+use Rattle.checks.specs.Model.{as_link}
 use Rattle.words.specs.Lines.{blank, words, Said, silent, part_said, link_said, neither}
 use Rattle.words.proofs.WordLaws.{word_plain}
 use Rattle.std.specs.Prelude.{Option, Some, None, Result, Ok, Err}
@@ -30,7 +30,7 @@ use Rattle.answers.specs.Faults.{number_of as fault_no}
 use Rattle.answers.specs.declared.Refusal.{Refusal}
 use Rattle.answers.specs.declared.fault.Fault.{Fault}
 use Rattle.answers.specs.declared.fault.Fault.TheVariants.{LinkParts, NoWeight, LinkAgain, Space, UnknownPart, WeightForm}
-use Rattle.link_order.specs.declared.Link.{Link as Row}
+use Rattle.checks.specs.declared.Link.{Link as Row}
 use Rattle.text.proofs.PartLaws.{refusal, then_same}
 use Rattle.text.specs.Reading.{known, number_of, is_weight, value, link_given, check_link}
 use Rattle.text.specs.Model.{found, check_fields, fields_check, fields_link, FieldsMeet, check_take, TakeMeets, LinkMeets}
@@ -154,7 +154,7 @@ module _ (N : List (List ℕ)) (x y w : List ℕ) where
                   ∙ go (not (eqb (number_of N x) (number_of N y))) 6 a2 _ unlike ∙ go (is_weight w) 104 a2 _ k.0
                   ∙ last_go (not (eqb (value w) 0)) 7 a2 (ap not (ne_eqb (value w) 0 (λ q. hz (k.1 ∙ q))))
 
-              pub fields_fine : (l : Row) → l.low ≡ min a b → l.high ≡ max a b → l.weight ≡ v → FieldsMeet N x y w (Ok l)
+              pub fields_fine : (l : Row ℕ) → l.low ≡ min a b → l.high ≡ max a b → l.weight ≡ v → FieldsMeet N x y w (Ok l)
               unfolding link_given
               fields_fine l el eh ew = record {
                 checked = λ a2. sym (fields_pass a2);
@@ -203,7 +203,7 @@ fields_known N a x y w e = (
   ltb-true (number_of N y) (length N) (unless_passed (known N y) 103 a (then_left _ _ (then_right (unless (known N x) 103 a) _ e))),
 )
 
-module _ (N : List (List ℕ)) (L : List Link) (a : ℕ) (x y w : List ℕ) (t : LinkLists) (seen : List ℕ) (m : ℕ) (f : Result Row Fault)
+module _ (N : List (List ℕ)) (L : List Link) (a : ℕ) (x y w : List ℕ) (t : LinkLists) (seen : List ℕ) (m : ℕ) (f : Result (Row ℕ) Fault)
     (few : length N ≤ 64) (near : Neighbours L seen) (count : length L ≡ m) (meets : FieldsMeet N x y w f) where
   abbrev given : Link
   given = link_given N x y w
@@ -234,12 +234,12 @@ module _ (N : List (List ℕ)) (L : List Link) (a : ℕ) (x y w : List ℕ) (t :
       (record { answer = sym (say_refused _ _ _ _ v); lists = λ g. accepted_not _ _ (sym v ∙ g); rows = λ g. accepted_not _ _ (sym v ∙ g) })
     where
       v : check_link t N L a (link_said x y w) ≡ refused (fault_no k) a
-      v = line_check ∙ then_stop _ _ _ _ (sym (meets.checked a) ∙ ap (λ (z : Result Row Fault). fields_check z a) h)
+      v = line_check ∙ then_stop _ _ _ _ (sym (meets.checked a) ∙ ap (λ (z : Result (Row ℕ) Fault). fields_check z a) h)
 
   -- its words give the link l
-  module _ (l : Row) (h : f ≡ Ok l) where
+  module _ (l : Row ℕ) (h : f ≡ Ok l) where
     fields_passed : check_fields N a x y w ≡ accepted
-    fields_passed = sym (meets.checked a) ∙ ap (λ (z : Result Row Fault). fields_check z a) h
+    fields_passed = sym (meets.checked a) ∙ ap (λ (z : Result (Row ℕ) Fault). fields_check z a) h
 
     is_given : as_link l ≡ given
     is_given = ap fields_link (sym h) ∙ meets.given a fields_passed

@@ -13,8 +13,8 @@ use Rattle.checks.specs.Neighbours.{Neighbours}
 use Rattle.checks.specs.Model.{marked}
 use Rattle.link_order.specs.Order.{LinkLists, has_room, with_links, sort_links, put_link}
 use Rattle.words.specs.Lines.{Said, silent, part_said, link_said, neither, lines_of}
-use Rattle.link_order.specs.declared.Link.{Link as Row}
-use Rattle.link_order.specs.Lent.{as_link}
+use Rattle.checks.specs.declared.Link.{Link as Row}
+use Rattle.checks.specs.Model.{as_link}
 use Rattle.text.specs.Reading.{is_name, name_bytes, check_part, more_parts, check_parts, parts_of, known, number_of, is_weight, value, link_given, check_link, more_links, check_links, links_after}
 
 -- ---- names
@@ -61,16 +61,16 @@ check_fields N a x y w =
     then unless (is_weight w) 104 a
     then unless (not (eqb (value w) 0)) 7 a
 
-abbrev pub fields_check : Result Row Fault → ℕ → Verdict
+abbrev pub fields_check : Result (Row ℕ) Fault → ℕ → Verdict
 fields_check (Ok l) a = accepted
 fields_check (Err f) a = refused (fault_no f) a
 
-abbrev pub fields_link : Result Row Fault → Link
+abbrev pub fields_link : Result (Row ℕ) Fault → Link
 fields_link (Ok l) = as_link l
 fields_link (Err f) = link 0 0 0
 
 -- what reading a link line's words must do
-pub record FieldsMeet (N : List (List ℕ)) (x y w : List ℕ) (f : Result Row Fault) : Type 0 where
+pub record FieldsMeet (N : List (List ℕ)) (x y w : List ℕ) (f : Result (Row ℕ) Fault) : Type 0 where
   pub checked : (a : ℕ) → fields_check f a ≡ check_fields N a x y w
   pub given : (a : ℕ) → check_fields N a x y w ≡ accepted → fields_link f ≡ link_given N x y w
 

@@ -7,7 +7,8 @@ ghost use Rattle.sets.specs.Lists.{all, same};
 ghost use Rattle.percolation.specs.Ranges.{in_range};
 ghost use Rattle.percolation.specs.Links.{Link as PlainLink};
 ghost use Rattle.checks.specs.Neighbours.{Neighbours};
-ghost use Rattle.link_order.specs.Lent.{as_link, link_lists_of, SameLinks};
+ghost use Rattle.checks.specs.Model.{as_link};
+ghost use Rattle.link_order.specs.Lent.{link_lists_of, SameLinks};
 ghost use Rattle.part_names.specs.Names.{visible};
 ghost use Rattle.words.specs.Lines.{blank, words, words_say, part_said};
 ghost use Rattle.text.specs.Reading.{is_name, padded, value, is_weight, TextMeets};
@@ -16,7 +17,9 @@ ghost use Rattle.text.specs.Model.{Held, found, PartMeets, PartsMeet, FieldsMeet
 mod walk;
 
 use answers::{Answer, Fault, Refusal};
-use link_order::{Link, Links};
+use checks::Link;
+use link_order::Links;
+use part_names::NameList;
 use sheet::Counts;
 use walk::Lines;
 use words::Form;
@@ -52,38 +55,36 @@ fn put_name(slot: &mut [u8], name: &[u8])
     }
 }
 
-fn all_spaces(bytes: &[u8]) -> bool
-    ensures { result ≡ list_all (λ b. b == 32) bytes.now }
-{
-    bytes.iter().all(|b| *b == b' ')
-}
-
 // Whether the slot holds this name, padded.
 fn holds_name(slot: &[u8], name: &[u8]) -> bool
     ensures { result ≡ leb (length name.now) (length slot.now) && same slot.now (padded (length slot.now) name.now) }
 {
-    slot.starts_with(name) && all_spaces(&slot[name.len()..])
+    slot.starts_with(name) && part_names::only_spaces(&slot[name.len()..])
 }
 
-// The first of p parts that has this name. Eight bytes a part stand at the start of `names`.
-fn find_name(names: &[u8], p: usize, name: &[u8]) -> Option<usize>
-    requires { 8 * p ≤ length names.now }
-    ensures below { IfSome result (λ q. q < p) }
-    ensures first { (N : List (List ℕ)) → Held N names.now → length N ≡ p → all (λ b. not (blank b)) name.now ≡ true → result ≡ found N name.now }
+// The first part that has this name.
+fn find_name(names: NameList, name: &[u8]) -> Option<usize>
+    ensures below { IfSome result (λ q. q < names.entry.count) }
+    ensures first { (N : List (List ℕ)) → Held N names.entry.bytes.now → length N ≡ names.entry.count → all (λ b. not (blank b)) name.now ≡ true → result ≡ found N name.now }
 {
-    (0..p).find(|&q| holds_name(&names[8 * q..8 * q + 8], name))
+    (0..names.count).find(|&q| holds_name(names.at(q), name))
 }
 
 // ---- pass 1: the parts
 
 // Puts one more name behind those of p parts: 5, 4, 102, and 16 where there is no room for it.
+// Pass 1 writes the names, so that it has no NameList of them.
 fn put_part(name: &[u8], place: usize, names: &mut [u8], p: usize) -> Answer
     requires { 8 * p ≤ length names.old }
     ensures { (N : List (List ℕ)) → Held N names.old → length N ≡ p → PartMeets N place (part_said name.now) names.old result names.new }
 {
     answers::require(is_name(name), Fault::Name, place)?;
     answers::require(checks::narrow_count(p + 1), Fault::PartCount, place)?;
-    answers::require(find_name(names, p, name).is_none(), Fault::PartAgain, place)?;
+    let list = NameList {
+        bytes: names,
+        count: p,
+    };
+    answers::require(find_name(list, name).is_none(), Fault::PartAgain, place)?;
     let at = 8 * p;
     answers::require(at + 8 <= names.len(), Fault::Space, 0)?;
     put_name(&mut names[at..at + 8], name);
@@ -121,6 +122,7 @@ fn read_parts(text: &[u8], names: &mut [u8]) -> Answer
 // ---- pass 2: the links
 
 // A digit's value; none for any other byte.
+// By hand: `parse` takes a sign and refuses the empty word, which `is_weight` does not.
 fn digit(b: u8) -> Option<u16>
     ensures { result ≡ cond (in_range 48 57 b) (Some (b - 48)) None }
 {
@@ -143,13 +145,13 @@ pub fn weight_of(word: &[u8]) -> Option<u16>
 }
 
 // The words of a link line: 103 for either name, 6, 104, 7. A fault has no place here: the line's is known to who calls.
-fn read_fields(line: &[u8], names: &[u8], p: usize) -> Result<Link, Fault>
-    requires { (8 * p ≤ length names.now) × (p ≤ 64) }
-    ensures { (N : List (List ℕ)) → Held N names.now → length N ≡ p
+fn read_fields(line: &[u8], names: NameList) -> Result<Link<u16>, Fault>
+    requires { names.count ≤ 64 }
+    ensures { (N : List (List ℕ)) → Held N names.entry.bytes.now → length N ≡ names.entry.count
         → FieldsMeet N (get_or (words line.now) 1 []) (get_or (words line.now) 2 []) (get_or (words line.now) 3 []) result }
 {
-    let a = find_name(names, p, words::word(line, 1)).ok_or(Fault::UnknownPart)?;
-    let b = find_name(names, p, words::word(line, 2)).ok_or(Fault::UnknownPart)?;
+    let a = find_name(names, words::word(line, 1)).ok_or(Fault::UnknownPart)?;
+    let b = find_name(names, words::word(line, 2)).ok_or(Fault::UnknownPart)?;
     if a == b {
         return Err(Fault::LinkParts);
     }
@@ -157,6 +159,7 @@ fn read_fields(line: &[u8], names: &[u8], p: usize) -> Result<Link, Fault>
     if weight == 0 {
         return Err(Fault::NoWeight);
     }
+    // Parts below 64: the casts lose nothing, and a TryFrom would have to be unwrapped.
     Ok(Link {
         low: a.min(b) as u16,
         high: a.max(b) as u16,
@@ -165,20 +168,19 @@ fn read_fields(line: &[u8], names: &[u8], p: usize) -> Result<Link, Fault>
 }
 
 // Takes in a link after m links whose neighbours stand in `seen`: 9, and 16 where there is no room for it.
-fn take_link(link: Link, place: usize, seen: &mut [u64], links: &mut Links, m: usize) -> Answer
+fn take_link(link: Link<u16>, place: usize, seen: &mut [u64], links: &mut Links, m: usize) -> Answer
     ensures lent { SameLinks links.old links.new }
     ensures taken { TakeMeets (link_lists_of links.old) seen.old m place (as_link link) result (link_lists_of links.new) seen.new }
 {
-    let low = usize::from(link.low);
-    let high = usize::from(link.high);
-    if sets::has(sets::at(seen, low), high) {
+    let wide = Link::from(link);
+    if sets::has(sets::at(seen, wide.low), wide.high) {
         return Err(Refusal {
             fault: Fault::LinkAgain,
             place,
         });
     }
     let n = link_order::put(links, m, link).ok_or(Fault::Space)?;
-    checks::add_link(seen, low, high);
+    checks::add_link(seen, wide);
     Ok(n)
 }
 
@@ -186,20 +188,19 @@ fn take_link(link: Link, place: usize, seen: &mut [u64], links: &mut Links, m: u
 fn link_line(
     line: &[u8],
     place: usize,
-    names: &[u8],
-    p: usize,
+    names: NameList,
     seen: &mut [u64],
     links: &mut Links,
     m: usize,
 ) -> Answer
-    requires { (8 * p ≤ length names.now) × (p ≤ 64) }
+    requires { names.count ≤ 64 }
     ensures lent { SameLinks links.old links.new }
-    ensures line { (N : List (List ℕ)) (L : List PlainLink) → Held N names.now → length N ≡ p → Neighbours L seen.old → length L ≡ m
+    ensures line { (N : List (List ℕ)) (L : List PlainLink) → Held N names.entry.bytes.now → length N ≡ names.entry.count → Neighbours L seen.old → length L ≡ m
         → LinkMeets N L place (words_say (words line.now)) (link_lists_of links.old) result (link_lists_of links.new) seen.new }
 {
     match words::form_of(line) {
         Form::Link => {
-            let link = read_fields(line, names, p).map_err(|fault| Refusal { fault, place })?;
+            let link = read_fields(line, names).map_err(|fault| Refusal { fault, place })?;
             take_link(link, place, seen, links, m)
         }
         Form::Part => Ok(m),
@@ -209,15 +210,15 @@ fn link_line(
 }
 
 // Pass 2: the link count, with the links at the start of the three lists.
-fn read_links(text: &[u8], names: &[u8], p: usize, links: &mut Links) -> Answer
-    requires { (8 * p ≤ length names.now) × (p ≤ 64) }
+fn read_links(text: &[u8], names: NameList, links: &mut Links) -> Answer
+    requires { names.count ≤ 64 }
     ensures lent { SameLinks links.old links.new }
-    ensures links { (N : List (List ℕ)) → Held N names.now → length N ≡ p → LinksMeet text.now N (link_lists_of links.old) result (link_lists_of links.new) }
+    ensures links { (N : List (List ℕ)) → Held N names.entry.bytes.now → length N ≡ names.entry.count → LinksMeet text.now N (link_lists_of links.old) result (link_lists_of links.new) }
 {
     let mut seen = sets::no_rows();
     let mut m = 0;
     for (place, line) in Lines::new(text) {
-        m = link_line(line, place, names, p, &mut seen, links, m)?;
+        m = link_line(line, place, names, &mut seen, links, m)?;
     }
     Ok(m)
 }
@@ -229,6 +230,10 @@ pub fn read(text: &[u8], names: &mut [u8], links: &mut Links) -> Result<Counts, 
     ensures read { TextMeets text.now names.old (link_lists_of links.old) result names.new (link_lists_of links.new) }
 {
     let parts = read_parts(text, names)?;
-    let links = read_links(text, names, parts, links)?;
+    let list = NameList {
+        bytes: names,
+        count: parts,
+    };
+    let links = read_links(text, list, links)?;
     Ok(Counts { parts, links })
 }

@@ -2,75 +2,70 @@
 
 // The tree program: reads a sheet from standard input, takes k 3, and writes the rows of its merge tree, or one refusal.
 use answers::{Fault, Refusal};
-use console::{STDIN, field, text};
-use slots::Lent;
+use sets::word;
+use sheet::Counts;
+use std::io;
+use tree_lines::Line;
+use trial::{Lengths, Refused, Tables};
 
-fn refused(r: Refusal) {
-    trial::refused(r);
-    text(b"\n");
+fn refused(rt: &impl Print, r: Refusal) -> io::Result<()> {
+    println!(rt; "{}", Refused(r))
 }
 
 // A line's fields, its number first.
-fn row(x: &[u8], n: usize) {
-    field(b"line ", n);
-    field(b" weight ", records::two_at(x, 0));
-    field(b" joins ", records::four_at(x, 2));
-    field(b" into ", records::four_at(x, 6));
-    field(b" smallest ", sets::word(sets::from_bytes(x, 10)) as usize);
-    field(b" parts ", sets::word(sets::from_bytes(x, 18)) as usize);
-    text(b"\n");
+fn row(rt: &impl Print, line: Line, n: usize) -> io::Result<()> {
+    let Line {
+        weight,
+        joins,
+        into,
+        small,
+        whole,
+    } = line;
+    print!(rt; "line {n} weight {weight} joins {joins} into {into} ")?;
+    println!(rt; "smallest {} parts {}", word(small), word(whole))
 }
 
-fn rows(out: &[u8], lines: usize) {
-    for (line, n) in out.chunks_exact(26).take(lines).zip(1..) {
-        row(line, n);
+fn rows(rt: &impl Print, out: &[u8], lines: usize) -> io::Result<()> {
+    let all = out.chunks_exact(tree_lines::line_length());
+    for (line, n) in all.take(lines).zip(1..) {
+        row(rt, Line::from(line), n)?;
     }
+    Ok(())
 }
 
-fn head(s: &[u8]) {
+fn head(rt: &impl Print, s: &[u8]) -> io::Result<()> {
     match sheet::check(s) {
-        Ok(c) => {
-            field(b"parts ", c.parts);
-            field(b" links ", c.links);
-            text(b"\n");
-        }
-        Err(r) => refused(r),
+        Ok(Counts { parts, links }) => println!(rt; "parts {parts} links {links}"),
+        Err(r) => refused(rt, r),
     }
 }
 
 // Tables of 1,024 slots, and space for 700 lines of 26 bytes, which such tables never exceed.
-fn show(s: &[u8]) {
-    let mut sets = [0u64; 1024];
-    let mut entries = [0u32; 1024];
-    let mut smallest = [0u64; 1024];
-    let mut unions = [0u64; 1024];
-    let mut tables = Lent {
-        sets: &mut sets,
-        entries: &mut entries,
-        smallest: &mut smallest,
-        unions: &mut unions,
-    };
+fn show(rt: &impl Print, s: &[u8]) -> io::Result<()> {
+    let mut space = Tables::<1024>::filled(0);
+    let mut tables = space.lend(Lengths::with_last(1024, 1024));
     let mut out = [0u8; 18200];
     match merge_tree::lines(s, 3, &mut tables, &mut out) {
         Ok(n) => {
-            head(s);
-            rows(&out, n);
-            field(b"end ", n);
-            text(b"\n");
+            head(rt, s)?;
+            rows(rt, &out, n)?;
+            println!(rt; "end {n}")
         }
-        Err(r) => refused(r),
+        Err(r) => refused(rt, r),
     }
 }
 
-fn main() {
-    let mut input = [0u8; 65537];
-    let n = io::read_full(STDIN, &mut input);
-    if 65536 < n {
-        refused(Refusal {
-            fault: Fault::Length,
-            place: 65536,
-        });
-        return;
+fn run(rt: &impl Print, input: &[u8]) -> io::Result<()> {
+    if 65536 < input.len() {
+        let (fault, place) = (Fault::Length, 65536);
+        return refused(rt, Refusal { fault, place });
     }
-    show(&input[..n]);
+    show(rt, input)
+}
+
+// Nothing is said where standard output takes no more.
+fn main(rt: HostRuntime) {
+    let mut input = [0u8; 65537];
+    let n = trial::read(&mut input);
+    let _ = run(&rt, &input[..n]);
 }

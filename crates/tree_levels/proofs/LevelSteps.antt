@@ -3,20 +3,20 @@ use mathlib.Core.Path.{◌≡◌, refl, sym, ap, ◌∙◌}
 use mathlib.Core.Logic.{◌⊎◌, inl, inr}
 use mathlib.Core.Bool.{Bool, true, false, cond, not, ◌&&◌, ◌||◌}
 use mathlib.Core.List.{List, [], ◌∷◌, ◌++◌, append-nil}
-use Prim.Native.Nat.{ℕ, zero, suc, ◌+◌, ◌≤◌, ◌<◌}
+use Prim.Native.Nat.{ℕ, suc, ◌+◌, ◌≤◌, ◌<◌}
 use native.Mathlib.Omega.{arith}
 use Rattle.std.specs.List.{filter, range_with_len}
 use native.Mathlib.Numerals.{add-one}
 use lib.Dec.{eqb, ltb}
 use lib.ListN.{length, length-append}
 use borrow.Author.Tests.{eq-eqb, ne_eqb, lt-ltb, le-ltb, le-leb, lt-leb}
-use Rattle.sets.specs.Lists.{keep, from, below}
+use Rattle.sets.specs.Lists.{keep, below}
 use Rattle.sets.specs.Value.{row, store, number_at}
 use Rattle.sets.proofs.Tests.{split, and_left, and_right}
 use Rattle.sets.proofs.ListLaws.{keep_yes, keep_no, keep_append, keep_both, keep_le, keep_all, below_length}
 use Rattle.slots.specs.Tables.{root_of}
 use Rattle.listings.specs.Model.{root_slots}
-use Rattle.listings.proofs.Listed.{roots_yes, roots_no}
+use Rattle.listings.proofs.Listed.{roots_yes, roots_no, range_kept}
 use Rattle.tree_levels.specs.LevelModel.{absorbed, more_joins, swept, joins_at, starts_at, start_slots}
 
 -- ---- absorbed classes
@@ -100,17 +100,7 @@ module _ (es us : List ℕ) (n : ℕ) where
     pub tally_no : eqb (root_of es i) i && starts_at us n i ≡ false → length (start_slots es us n (i + 1)) ≡ length (start_slots es us n i)
     tally_no e = ap (λ (j : ℕ). length (start_slots es us n j)) (add-one i) ∙ ap length (slots_no e)
 
--- ---- the slots that a test keeps, as std counts them
-
-filtered : (p : ℕ → Bool) (a n : ℕ) → filter p (range_with_len a n) ≡ keep p (from a n)
-unfolding keep from
-filtered p a zero = refl
-filtered p a (suc n) = rw (add-one a) (go (p a) (filtered p (suc a) n))
-  where
-    go : (b : Bool) → filter p (range_with_len (suc a) n) ≡ keep p (from (suc a) n)
-        → cond b (a ∷ filter p (range_with_len (suc a) n)) (filter p (range_with_len (suc a) n)) ≡ elim b [ true ↦ a ∷ keep p (from (suc a) n) | false ↦ keep p (from (suc a) n) ]
-    go true e = ap (λ (l : List ℕ). a ∷ l) e
-    go false e = e
+-- ---- the slots that a test keeps
 
 module _ (es us : List ℕ) (n m : ℕ) where
   pub starts_kept : start_slots es us n m ≡ keep (λ i. eqb (root_of es i) i && starts_at us n i) (below m)
@@ -119,7 +109,7 @@ module _ (es us : List ℕ) (n m : ℕ) where
 
   pub starts_filtered : length (filter (λ i. eqb (root_of es i) i && starts_at us n i) (range_with_len 0 m)) ≡ length (start_slots es us n m)
   unfolding below
-  starts_filtered = ap length (filtered (λ i. eqb (root_of es i) i && starts_at us n i) 0 m ∙ sym starts_kept)
+  starts_filtered = ap length (range_kept (λ i. eqb (root_of es i) i && starts_at us n i) 0 m ∙ sym starts_kept)
 
   pub starts_few : length (start_slots es us n m) ≤ m
   starts_few =

@@ -2,12 +2,16 @@
 
 // The end of a level of the merge tree, in the tables of the sequential run: the lines that start, their numbers, the lines that go into them, and
 // what each line grew to.
+//
+// Each step takes how many slots it goes through: those before the level, or all. It goes by their numbers, since a slot's number tells what stands at it
+// in four tables, and the tables are written meanwhile. They are read as `&Lent`, as whoever calls holds them: a View would be made anew for each slot.
+// A number in a free row is a u64 and that of a line or a slot a usize, between which no From stands: hence `as`.
 ghost use Rattle.std.specs.Prelude.{◌≡◌, cond, ◌&&◌, suc, ◌+◌, ◌-◌, ◌^◌, ◌<◌, ◌≤◌, eqb, ltb, length};
 ghost use Rattle.sets.specs.Value.{store, number_at};
 ghost use Rattle.slots.specs.Tables.{root_of};
 ghost use Rattle.slots.specs.Lent.{tables_of};
-ghost use Rattle.tree_lines.specs.LineModel.{changed, Redirects};
-ghost use Rattle.tree_levels.specs.Kept.{KeepsSlots, with_unions};
+ghost use Rattle.tree_lines.specs.LineModel.{line_count, changed, Redirects};
+ghost use Rattle.tree_levels.specs.Kept.{KeepsSlots, counted, starting, with_unions};
 ghost use Rattle.tree_levels.specs.LevelModel.{
   absorbed,
   more_joins,
@@ -27,12 +31,11 @@ ghost use Rattle.tree_levels.specs.LevelModel.{
 use slots::Lent;
 use tree_lines::Line;
 
-// A level: the weight of its links, and how many slots were used before them and are now.
+// A level: the weight of its links, and how many slots were used before them.
 #[derive(Clone, Copy, Debug, PartialEq, Eq)]
 pub struct Level {
     pub weight: usize,
     pub before: usize,
-    pub used: usize,
 }
 
 // The slot where the class of slot i ends.
@@ -57,7 +60,7 @@ fn absorbed(tables: &Lent, i: usize) -> bool
     !is_end(tables, i) && !sets::is_empty(sets::at(tables.unions, i))
 }
 
-// How many lines a class joins with one more class, where it joined n; 0 stands for its own line alone.
+// How many lines a class joins with one more class, where it joined n; 0 stands for its own line alone, in a free row as in the line's field (the C interface).
 #[tactic(auto, unfolding(crate::specs::LevelModel::more_joins))]
 fn more_joins(n: u64) -> u64
     ensures { result ≡ more_joins n }
@@ -95,7 +98,7 @@ fn count_joins(tables: &mut Lent, used: usize)
     }
 }
 
-// How many lines the class that ends at r joins.
+// How many lines the class that ends at r joins, as the line's field says it: 0 for none.
 #[tactic(auto, unfolding(crate::specs::LevelModel::joins_at))]
 fn joins_at(unions: &[u64], before: usize, r: usize) -> usize
     ensures { result ≡ joins_at unions.now before r }
@@ -116,12 +119,10 @@ fn starts(tables: &Lent, before: usize, r: usize) -> bool
 }
 
 // How many lines start.
-fn count_lines(tables: &Lent, level: Level) -> usize
-    ensures { (result ≡ length (start_slots tables.now.entries.now tables.now.unions.now level.before level.used)) × (result ≤ level.used) }
+fn count_lines(tables: &Lent, before: usize, used: usize) -> usize
+    ensures { (result ≡ length (start_slots tables.now.entries.now tables.now.unions.now before used)) × (result ≤ used) }
 {
-    (0..level.used)
-        .filter(|i| starts(tables, level.before, *i))
-        .count()
+    (0..used).filter(|i| starts(tables, before, *i)).count()
 }
 
 // Empties the row of each used slot that is no end.
@@ -139,15 +140,15 @@ fn wipe(tables: &mut Lent, used: usize)
 }
 
 // Puts the lines that start behind the first n, by smallest clique, each with the slot where its class ends in place of the line that it goes into. Gives
-// how many there are then.
-fn put_lines(tables: &Lent, level: Level, out: &mut [u8], n: usize) -> usize
-    requires { n + level.used < 2 ^ 64 }
-    ensures value { result ≡ n + length (start_slots tables.now.entries.now tables.now.unions.now level.before level.used) }
-    ensures filled_to { FilledTo level.weight tables.now.entries.now tables.now.smallest.now tables.now.unions.now level.before level.used
-        out.old n level.used out.new }
+// how many there are then. The output and n are no struct: a level needs the number of lines before it and that after it.
+fn put_lines(tables: &Lent, level: Level, used: usize, out: &mut [u8], n: usize) -> usize
+    requires { n + used < 2 ^ 64 }
+    ensures value { result ≡ n + length (start_slots tables.now.entries.now tables.now.unions.now level.before used) }
+    ensures filled_to { FilledTo level.weight tables.now.entries.now tables.now.smallest.now tables.now.unions.now level.before used
+        out.old n used out.new }
 {
     let mut m = n;
-    for i in 0..level.used {
+    for i in 0..used {
         if starts(tables, level.before, i) {
             let line = Line {
                 weight: level.weight,
@@ -163,102 +164,101 @@ fn put_lines(tables: &Lent, level: Level, out: &mut [u8], n: usize) -> usize
     m
 }
 
-// The line that the class of slot r had goes into line m of n, where r was used before.
-fn end_line(tables: &Lent, before: usize, out: &mut [u8], n: usize, r: usize, m: usize)
-    ensures { Redirects (λ f. cond (ltb r before) (changed f (number_at tables.now.smallest.now (suc r)) m) f) out.old n out.new }
+// The line that the class of slot r had goes into line m, where r was used before.
+fn end_line(tables: &Lent, before: usize, lines: &mut [u8], r: usize, m: usize)
+    ensures { Redirects (λ f. cond (ltb r before) (changed f (number_at tables.now.smallest.now (suc r)) m) f) lines.old (line_count lines.old) lines.new }
 {
     if r < before {
         let old = slots::note_at(tables.smallest, r + 1) as usize;
-        tree_lines::put_into(out, n, old, m);
+        tree_lines::put_into(lines, old, m);
     }
 }
 
-// Line m of n starts at the slot that stands in place of the line that it goes into: its number goes to the slot after that.
-fn number_line(tables: &mut Lent, before: usize, out: &mut [u8], n: usize, m: usize)
-    requires { (1 ≤ m) × (m ≤ n) }
+// Line m starts at the slot that stands in place of the line that it goes into: its number goes to the slot after that.
+fn number_line(tables: &mut Lent, before: usize, lines: &mut [u8], m: usize)
+    requires { (1 ≤ m) × (m ≤ line_count lines.old) }
     ensures kept { KeepsSlots tables.old tables.new }
-    ensures numbers { NumbersOne before m tables.old.smallest.now tables.old.unions.now out.old n
-        tables.new.smallest.now tables.new.unions.now out.new }
+    ensures numbers { NumbersOne before m tables.old.smallest.now tables.old.unions.now lines.old (line_count lines.old)
+        tables.new.smallest.now tables.new.unions.now lines.new }
 {
-    let r = tree_lines::into_at(out, n, m);
-    end_line(tables, before, out, n, r, m);
-    tree_lines::put_into(out, n, m, 0);
-    slots::put_note(tables.smallest, r + 1, m as u64);
-    slots::put_note(tables.unions, r + 1, 0);
+    if let Some(r) = tree_lines::into_at(lines, m) {
+        end_line(tables, before, lines, r, m);
+        tree_lines::put_into(lines, m, 0);
+        slots::put_note(tables.smallest, r + 1, m as u64);
+        slots::put_note(tables.unions, r + 1, 0);
+    }
 }
 
-// The lines behind the first `from` get their numbers, up to n.
+// The lines behind the first `from` get their numbers.
 #[tactic(auto, unfolding(crate::specs::LevelModel::numbered))]
-fn number_lines(tables: &mut Lent, before: usize, out: &mut [u8], from: usize, n: usize)
-    requires { from ≤ n }
+fn number_lines(tables: &mut Lent, before: usize, lines: &mut [u8], from: usize)
     ensures kept { KeepsSlots tables.old tables.new }
-    ensures numbers { NumbersTo before from (n - from) tables.old.smallest.now tables.old.unions.now out.old n
-        tables.new.smallest.now tables.new.unions.now out.new }
+    ensures numbers { NumbersTo before from (line_count lines.old - from) tables.old.smallest.now tables.old.unions.now lines.old (line_count lines.old)
+        tables.new.smallest.now tables.new.unions.now lines.new }
 {
-    for m in from..n {
-        number_line(tables, before, out, n, m + 1);
+    for m in from..tree_lines::line_count(lines) {
+        number_line(tables, before, lines, m + 1);
     }
 }
 
 // The line of each absorbed class, of `used` slots, goes into the line of the class where it ends now.
 #[tactic(auto, unfolding(crate::specs::LevelModel::went_into))]
-fn join_lines(tables: &Lent, used: usize, out: &mut [u8], n: usize)
-    ensures { WentTo tables.now.entries.now tables.now.smallest.now tables.now.unions.now out.old n used out.new }
+fn join_lines(tables: &Lent, used: usize, lines: &mut [u8])
+    ensures { WentTo tables.now.entries.now tables.now.smallest.now tables.now.unions.now lines.old (line_count lines.old) used lines.new }
 {
     for i in 0..used {
         if absorbed(tables, i) {
             let r = end(tables, i);
             let old = slots::note_at(tables.smallest, i + 1) as usize;
             let line = slots::note_at(tables.smallest, r + 1) as usize;
-            tree_lines::put_into(out, n, old, line);
+            tree_lines::put_into(lines, old, line);
         }
     }
 }
 
-// Each class that ends below `used` shows its union in its line, one of n. The line of a class that was absorbed keeps what the level before showed.
+// Each class that ends below `used` shows its union in its line. The line of a class that was absorbed keeps what the level before showed.
 #[tactic(auto, unfolding(crate::specs::LevelModel::grew_to))]
-fn show_growth(tables: &Lent, used: usize, out: &mut [u8], n: usize)
-    ensures { GrewTo tables.now.entries.now tables.now.smallest.now tables.now.unions.now out.old n used out.new }
+fn show_growth(tables: &Lent, used: usize, lines: &mut [u8])
+    ensures { GrewTo tables.now.entries.now tables.now.smallest.now tables.now.unions.now lines.old (line_count lines.old) used lines.new }
 {
     for r in 0..used {
         let after = r + 1;
         if is_end(tables, r) {
             let line = slots::note_at(tables.smallest, after) as usize;
-            tree_lines::put_whole(out, n, line, sets::at(tables.unions, r));
+            tree_lines::put_whole(lines, line, sets::at(tables.unions, r));
         }
     }
 }
 
-// A level of the first pass, after its links: how many lines start.
-pub fn count_level(tables: &mut Lent, level: Level) -> usize
+// A level of the first pass, after its links: how many lines start, where `before` slots were used before them.
+pub fn count_level(tables: &mut Lent, before: usize, used: usize) -> usize
     ensures kept { KeepsSlots tables.old tables.new }
-    ensures value { (result ≡ length (start_slots tables.old.entries.now
-        (join_counts tables.old.entries.now tables.old.unions.now level.before) level.before level.used)) × (result ≤ level.used) }
-    ensures tables_after { tables_of tables.new 0 ≡ with_unions (tables_of tables.old 0)
-        (wiped tables.old.entries.now (join_counts tables.old.entries.now tables.old.unions.now level.before) level.used) }
+    ensures value { (result ≡ length (starting (tables_of tables.old used) before)) × (result ≤ used) }
+    ensures tables_after { tables_of tables.new used ≡ with_unions (tables_of tables.old used)
+        (wiped tables.old.entries.now (counted (tables_of tables.old used) before) used) }
 {
-    count_joins(tables, level.before);
-    let n = count_lines(tables, level);
-    wipe(tables, level.used);
+    count_joins(tables, before);
+    let n = count_lines(tables, before, used);
+    wipe(tables, used);
     n
 }
 
 // A level of the second pass, after its links: its lines behind the first n, with their numbers, the lines that they join go into them, and each line
 // that goes on shows its union. Gives how many lines there are then. For sister crates: the slots of a table are few.
-pub fn write_level(tables: &mut Lent, level: Level, out: &mut [u8], n: usize) -> usize
-    requires { n + level.used < 2 ^ 64 }
+pub fn write_level(tables: &mut Lent, level: Level, used: usize, out: &mut [u8], n: usize) -> usize
+    requires { n + used < 2 ^ 64 }
     ensures kept { KeepsSlots tables.old tables.new }
-    ensures value { result ≡ n + length (start_slots tables.old.entries.now
-        (join_counts tables.old.entries.now tables.old.unions.now level.before) level.before level.used) }
-    ensures writes_level { WritesLevel level.before level.used level.weight n tables.old.entries.now tables.old.smallest.now
-        (join_counts tables.old.entries.now tables.old.unions.now level.before) out.old
-        tables.new.smallest.now tables.new.unions.now out.new }
+    ensures value { result ≡ n + length (starting (tables_of tables.old used) level.before) }
+    ensures writes_level { WritesLevel level.before used level.weight n tables.old.entries.now tables.old.smallest.now
+        (counted (tables_of tables.old used) level.before) out.old tables.new.smallest.now tables.new.unions.now out.new }
 {
     count_joins(tables, level.before);
-    let m = put_lines(tables, level, out, n);
-    number_lines(tables, level.before, out, n, m);
-    join_lines(tables, level.before, out, m);
-    show_growth(tables, level.used, out, m);
-    wipe(tables, level.used);
+    let m = put_lines(tables, level, used, out, n);
+    let end = m.saturating_mul(tree_lines::line_length()).min(out.len());
+    let lines = &mut out[..end];
+    number_lines(tables, level.before, lines, n);
+    join_lines(tables, level.before, lines);
+    show_growth(tables, used, lines);
+    wipe(tables, used);
     m
 }

@@ -1,2 +1,3 @@
 pub mod LineFields
 pub mod LinePlaces
+pub mod LineRead

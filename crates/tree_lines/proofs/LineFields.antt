@@ -80,7 +80,7 @@ lines_changed f u g v n m (x ∷ X) (suc j) e l h =
     ap₂ (λ (y : Line) (Y : List Line). y ∷ Y) (sym (ap₂ (line_as x) y.0 y.1)) (lines_changed f u g v (suc n) m X j (omega arith) (omega arith) h)
 
 -- the field for the line that it goes into
-into_field : (y : Line) → Field (line_bytes y) (bytes 4 y.into) 6
+pub into_field : (y : Line) → Field (line_bytes y) (bytes 4 y.into) 6
 into_field y = record {
   front = bytes 2 y.weight ++ bytes 4 y.joins;
   back = set_bytes y.small ++ set_bytes y.whole;

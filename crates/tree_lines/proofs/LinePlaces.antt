@@ -61,7 +61,7 @@ tree_length X = records_length line_bytes line_length line_bytes_lem X
 -- ---- one is written
 
 -- the smallest clique stands behind the numbers
-small_at : (x : Line) → Field (line_bytes x) (set_bytes x.small) 10
+pub small_at : (x : Line) → Field (line_bytes x) (set_bytes x.small) 10
 small_at x = record { front = head_of x.weight x.joins x.into; back = set_bytes x.whole; parts = refl; long = head_length_lem x.weight x.joins x.into }
 
 -- and the union behind it
@@ -141,21 +141,18 @@ pub line_below : (len n m : ℕ) → m < 1 → has_line len n m ≡ false
 unfolding has_line
 line_below len n m a = sym (and_stop (leb 1 m) _ (lt-leb 1 m a))
 
-pub line_above : (len n m : ℕ) → n < m → has_line len n m ≡ false
-line_above len n m b = not_so (has_line len n m) (λ t. absurd (omega (arith, has_line_lem len n m t)))
-
-pub line_behind : (len n m size : ℕ) → size ≡ line_length → len / size < m → has_line len n m ≡ false
-line_behind len n m size e b = not_so (has_line len n m) (λ t. absurd (omega (arith, has_line_lem len n m t, ap (λ (k : ℕ). len / k) e)))
+pub line_above : (len n m : ℕ) → n ≡ len / line_length → n < m → has_line len (len / line_length) m ≡ false
+line_above len n m e b = not_so (has_line len (len / line_length) m) (λ t. absurd (omega (arith, e, has_line_lem len (len / line_length) m t)))
 
 -- it is there, from k on
-pub line_there : (len n m size k : ℕ) → size ≡ line_length → k ≡ line_length → 1 ≤ m → m ≤ n → m ≤ len / size
-    → (has_line len n m ≡ true) × ((m - 1) * k ≡ (m - 1) * line_length) × ((m - 1) * k + line_length ≤ len)
+pub line_there : (len n m k : ℕ) → n ≡ len / line_length → k ≡ line_length → 1 ≤ m → m ≤ n
+    → (has_line len (len / line_length) m ≡ true) × ((m - 1) * k ≡ (m - 1) * line_length) × ((m - 1) * k + line_length ≤ len)
 unfolding has_line
-line_there len n m size k e f a b d =
-    let q = ap (λ (i : ℕ). len / i) e in
+line_there len n m k e f a b =
     let at = ap (λ (i : ℕ). (m - 1) * i) f in
-    let w : m ≤ len / line_length = omega arith in (
-      and_intro (leb 1 m) _ (le-leb 1 m a) (and_intro (leb m n) (leb m (len / line_length)) (le-leb m n b) (le-leb m (len / line_length) w)),
+    let w : m ≤ len / line_length = omega (arith, e) in (
+      and_intro (leb 1 m) _ (le-leb 1 m a)
+          (and_intro (leb m (len / line_length)) (leb m (len / line_length)) (le-leb m (len / line_length) w) (le-leb m (len / line_length) w)),
       at,
       omega arith,
     )

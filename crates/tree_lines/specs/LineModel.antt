@@ -3,10 +3,12 @@
 use Rattle.std.specs.Prelude.{◌≡◌, Bool, cond, ◌&&◌, List, [], ◌∷◌, ◌++◌, ℕ, suc, ◌/◌, ◌<◌, ◌^◌, eqb, leb, length}
 use Rattle.sets.specs.Lists.{◌∈◌, insert_by}
 use Rattle.sets.specs.Sets.{before}
-use Rattle.sets.specs.Value.{width, num, bytes, set_bytes}
+use Rattle.sets.specs.Value.{width, num, bytes, set_bytes, set_at}
+use Rattle.records.specs.Numbers.{two_at, four_at}
 use Rattle.tree_lines.specs.declared.Line as declared
-use Rattle.percolation.specs.Tree.{Start, Line, line, tree_bytes}
+use Rattle.percolation.specs.Tree.{Start, Line, line, whole_place, tree_bytes}
 pub use Rattle.percolation.specs.Tree.{line_length}
+pub use Rattle.tree_lines.specs.Count.{line_count}
 
 -- a line as the code holds it
 abbrev pub line_in : declared.Line → Line
@@ -15,6 +17,10 @@ line_in l = line l.weight l.joins l.into (num l.small) (num l.whole)
 -- the bytes of a line
 abbrev pub line_bytes : Line → List ℕ
 line_bytes x = bytes 2 x.weight ++ bytes 4 x.joins ++ bytes 4 x.into ++ set_bytes x.small ++ set_bytes x.whole
+
+-- the line whose bytes stand first in b
+abbrev pub line_of : List ℕ → Line
+line_of b = line (two_at b 0) (four_at b 2) (four_at b 6) (set_at b 10) (set_at b whole_place)
 
 -- lines stand by their smallest cliques
 abbrev pub by_line : Line → Line → Bool

@@ -1,11 +1,13 @@
 #![tactic(auto)]
 
-// What the trial programs share: a script's lines as calls, and answers, outputs and tables in words. No contract can say which bytes are written: stored
-// outputs do.
+// What the trial programs share: their input, a script's lines as calls, tables of a program's own, and answers, outputs and tables in words. No contract can
+// say which bytes are read or written: stored outputs do.
+mod input;
 mod say;
 mod script;
 mod tables;
 
-pub use say::{listed, refused, untouched};
+pub use input::read;
+pub use say::{Listed, Refused, untouched};
 pub use script::{Lines, Row, call, label, numbers, part, rows, small, spelled};
-pub use tables::{copied, left, same, shown};
+pub use tables::{Left, Lengths, Tables, copied, same};

@@ -2,19 +2,30 @@
 ghost use Rattle.trial.specs.Outputs.{Dots};
 
 use answers::{Answer, Refusal};
-use console::{field, text};
+use std::fmt;
 
-pub fn refused(r: Refusal) {
-    field(b"refused ", usize::from(u8::from(r.fault)));
-    field(b" at ", r.place);
+#[derive(Clone, Copy)]
+pub struct Refused(pub Refusal);
+
+impl fmt::Display for Refused {
+    fn fmt<W: fmt::Write>(&self, f: &mut fmt::Formatter<W>) -> fmt::Result {
+        let Refusal { fault, place } = self.0;
+        write!(f, "refused {} at {place}", u8::from(fault))
+    }
 }
 
 // Each community of a listing as smallest/union.
-fn communities(out: &[u8]) {
-    let (words, _) = out.as_chunks::<8>();
-    for (i, word) in words.iter().enumerate() {
-        let sign = if i % 2 == 0 { b" " } else { b"/" };
-        field(sign, u64::from_be_bytes(*word) as usize);
+#[derive(Clone, Copy)]
+struct Communities<'a>(&'a [u8]);
+
+impl fmt::Display for Communities<'_> {
+    fn fmt<W: fmt::Write>(&self, f: &mut fmt::Formatter<W>) -> fmt::Result {
+        let (words, _) = self.0.as_chunks::<8>();
+        for (i, word) in words.iter().enumerate() {
+            let sign = if i % 2 == 0 { ' ' } else { '/' };
+            write!(f, "{sign}{}", u64::from_be_bytes(*word))?;
+        }
+        Ok(())
     }
 }
 
@@ -25,22 +36,25 @@ pub fn untouched(out: &[u8]) -> usize
     out.iter().position(|b| *b != b'.').unwrap_or(out.len())
 }
 
-// The count, the communities and what is left of the output behind them; of a refusal the whole output.
-pub fn listed(a: Answer, out: &[u8]) {
-    match a {
-        Ok(n) => {
-            field(b"count ", n);
-            if out.len() / 16 < n {
-                text(b", more than the output holds");
-                return;
+// What a listing answered in an output: the count, the communities and what is left of the output behind them; of a refusal the whole output.
+#[derive(Clone, Copy)]
+pub struct Listed<'a>(pub Answer, pub &'a [u8]);
+
+impl fmt::Display for Listed<'_> {
+    fn fmt<W: fmt::Write>(&self, f: &mut fmt::Formatter<W>) -> fmt::Result {
+        let Listed(answer, out) = *self;
+        match answer {
+            Ok(n) if out.len() / 16 < n => write!(f, "count {n}, more than the output holds"),
+            Ok(n) => {
+                let (listing, behind) = out.split_at(n * 16);
+                write!(
+                    f,
+                    "count {n}{}, untouched {}",
+                    Communities(listing),
+                    untouched(behind)
+                )
             }
-            let (listing, behind) = out.split_at(n * 16);
-            communities(listing);
-            field(b", untouched ", untouched(behind));
-        }
-        Err(r) => {
-            refused(r);
-            field(b", untouched ", untouched(out));
+            Err(r) => write!(f, "{}, untouched {}", Refused(r), untouched(out)),
         }
     }
 }

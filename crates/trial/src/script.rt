@@ -1,6 +1,5 @@
 // A script: each line is =BYTES, or LABEL: CALL NUMBER.. with up to seven numbers.
-ghost use Rattle.std.specs.Prelude.{◌≡◌, ◌%◌, ◌<◌, ◌≤◌, length};
-ghost use Rattle.std.specs.Iterator.{at_most};
+ghost use Rattle.std.specs.Prelude.{◌≡◌, ◌+◌, ◌%◌, ◌<◌, ◌≤◌, ℕ, length, take, drop, MatchOption};
 
 // A line with a call, and the last line before it that spells bytes, on which the call is made.
 #[derive(Clone, Copy)]
@@ -19,29 +18,38 @@ pub struct Lines<'a> {
 pub fn rows(script: &[u8]) -> Lines<'_>
     ensures { result.rest.now ≡ script.now }
 {
-    let (bytes, _) = split_line(script);
+    let bytes = split_line(script).map_or(script, |(line, _)| line);
     Lines {
         rest: script,
         bytes,
     }
 }
 
-// The first line without its end, and what stands behind it.
-fn split_line(script: &[u8]) -> (&[u8], &[u8])
-    ensures { 0 < length script.now → length result.1.now < length script.now }
+// The first line without its end, and what stands behind it; none where nothing is left.
+fn split_line(script: &[u8]) -> Option<(&[u8], &[u8])>
+    ensures { MatchOption result (length script.now ≡ 0)
+        (λ split. (0 < length script.now) × ((e : ℕ) × (split.0.now ≡ take e script.now) × (split.1.now ≡ drop (e + 1) script.now))) }
 {
+    if script.is_empty() {
+        return None;
+    }
     let end = console::find(script, 0, script.len(), b'\n');
-    (&script[..end], script.get(end + 1..).unwrap_or_default())
+    Some((&script[..end], script.get(end + 1..).unwrap_or_default()))
 }
 
 impl<'a> Iterator for Lines<'a> {
+    ghost use Rattle.std.specs.Iterator.{at_most};
+    ghost use Rattle.trial.specs.Script.{ReadsOn};
+
     type Item = Row<'a>;
+
+    ghost next_gives = { ReadsOn };
 
     ghost remaining = { λ s. at_most (length s.rest.now) };
 
+    // No `for`: what is left of the script is kept from call to call, and an iterator over its lines would keep the same.
     fn next(&mut self) -> Option<Row<'a>> {
-        while !self.rest.is_empty() {
-            let (line, rest) = split_line(self.rest);
+        while let Some((line, rest)) = split_line(self.rest) {
             self.rest = rest;
             if !line.starts_with(b"=") {
                 return Some(Row {
@@ -103,22 +111,25 @@ fn words(line: &[u8]) -> &[u8] {
 }
 
 // The first letter of the call.
+// 0 where there is none: like any letter that stands for no call of its own, it means the last call of a program.
 pub fn call(line: &[u8]) -> u8 {
     words(line).first().copied().unwrap_or(0)
 }
 
 // n with one digit more; a byte that is no digit changes nothing.
+// By hand: `parse` takes a sign and refuses what is no digit.
 fn more(n: usize, b: u8) -> usize {
-    match char::from(b).to_digit(10) {
-        Some(d) => n.wrapping_mul(10).wrapping_add(d as usize),
-        None => n,
+    match b {
+        b'0'..=b'9' => n.wrapping_mul(10).wrapping_add(usize::from(b - b'0')),
+        _ => n,
     }
 }
 
-// The numbers behind the call, the first at place 1.
-pub fn numbers(line: &[u8]) -> [usize; 8] {
-    let mut all = [0; 8];
-    for (n, word) in all.iter_mut().zip(words(line).split(|b| *b == b' ')) {
+// The numbers behind the call; 0 for one that is not there.
+pub fn numbers(line: &[u8]) -> [usize; 7] {
+    let mut all = [0; 7];
+    let words = words(line).split(|b| *b == b' ').skip(1);
+    for (n, word) in all.iter_mut().zip(words) {
         *n = word.iter().fold(0, |n, b| more(n, *b));
     }
     all
@@ -129,7 +140,7 @@ pub fn part(all: &[u8], from: usize, to: usize) -> &[u8] {
     all.get(from..to).unwrap_or_default()
 }
 
-// The low sixteen bits of a number.
+// The low sixteen bits of a number: no From leads from a usize to a u16.
 pub fn small(n: usize) -> u16
     ensures { result ≡ n % 65536 }
 {

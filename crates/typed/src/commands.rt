@@ -39,6 +39,7 @@ fn one_word(line: &[u8]) -> Command
     }
 }
 
+// A function and no From: docs/ARCHITECTURE.md names it.
 pub fn command_of(line: &[u8]) -> Command
     ensures { result ≡ line_asks line.now }
 {

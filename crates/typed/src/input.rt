@@ -12,7 +12,8 @@ const READS: usize = 1000000;
 #[derive(Clone, Copy, Debug, PartialEq, Eq)]
 pub struct TooLong;
 
-// The lines of an input, in a lent buffer: what was read and not yet given stands from `from` to before `to`; `ended` where none follows it.
+// The lines of an input, in a lent buffer: what was read and not yet given stands from `from` to before `to`; `ended` where none follows it. A plain flag:
+// what is kept lies there in both states, and an Option or an enum of states would be taken apart in every step.
 #[derive(Drop)]
 pub struct Lines<'a> {
     buf: &'a mut [u8],
@@ -27,7 +28,8 @@ impl<'a> Lines<'a> {
 
     // Before the first line nothing is kept.
     pub fn new(buf: &'a mut [u8]) -> Lines<'a>
-        ensures { kept result ≡ [] }
+        ensures none { kept result ≡ [] }
+        ensures length { length result.buf.now ≡ length buf.old }
     {
         Lines {
             buf,
@@ -50,6 +52,7 @@ impl<'a> Lines<'a> {
     // Moves what is kept to the front of the buffer.
     fn to_front(&mut self)
         ensures same { kept self.new ≡ kept self.old }
+        ensures length { length self.new.buf.now ≡ length self.old.buf.now }
         ensures no_newline { NoNewline self.old.buf.now self.old.from self.old.to → NoNewline self.new.buf.now self.new.from self.new.to }
     {
         self.buf.copy_within(self.from..self.to, 0);
@@ -63,6 +66,7 @@ impl<'a> Lines<'a> {
         requires first { NoNewline self.old.buf.now self.old.from end }
         requires newline { slice_index self.old.buf.now end ≡ 10 }
         ensures within { LineIn result self.new.buf.now }
+        ensures length { length self.new.buf.now ≡ length self.old.buf.now }
         ensures parted { kept self.old ≡ line_at result self.new.buf.now ++ 10 ∷ kept self.new }
     {
         let from = self.from;
@@ -75,6 +79,7 @@ impl<'a> Lines<'a> {
         requires { NoNewline self.old.buf.now self.old.from self.old.to }
         ensures within { IfSome result (λ line. LineIn line self.new.buf.now) }
         ensures all { IfSome result (λ line. line_at line self.new.buf.now ≡ kept self.old) }
+        ensures length { length self.new.buf.now ≡ length self.old.buf.now }
     {
         let from = self.from;
         self.from = self.to;
@@ -83,7 +88,9 @@ impl<'a> Lines<'a> {
     }
 
     // The rest of a line that is too long, read and forgotten. Where it takes too many reads the input counts as ended.
-    fn pass_over(&mut self, rt: &impl Eprint, input: &mut impl Read) {
+    fn pass_over(&mut self, rt: &impl Eprint, input: &mut impl Read)
+        ensures length { length self.new.buf.now ≡ length self.old.buf.now }
+    {
         for _ in 0..READS {
             self.from = 0;
             self.to = read_on(rt, input, "standard input", self.buf, 0).unwrap_or(0);
@@ -107,8 +114,10 @@ impl<'a> Lines<'a> {
         input: &mut impl Read,
     ) -> Option<Result<Range<usize>, TooLong>>
         requires { NoNewline self.old.buf.now self.old.from self.old.to }
-        ensures { NextIn result self.new.buf.now }
+        ensures within { NextIn result self.new.buf.now }
+        ensures length { length self.new.buf.now ≡ length self.old.buf.now }
     {
+        // A `while`: a read gives as many bytes as come, so that nothing counts the turns.
         while self.to < self.buf.len() {
             let behind = self.to;
             let Ok(more) = read_on(rt, input, "standard input", self.buf, behind) else {
@@ -134,7 +143,8 @@ impl<'a> Lines<'a> {
         rt: &impl Eprint,
         input: &mut impl Read,
     ) -> Option<Result<Range<usize>, TooLong>>
-        ensures { NextIn result self.new.buf.now }
+        ensures within { NextIn result self.new.buf.now }
+        ensures length { length self.new.buf.now ≡ length self.old.buf.now }
     {
         let from = self.from;
         let end = self.newline(from);
@@ -148,7 +158,8 @@ impl<'a> Lines<'a> {
         self.read_line(rt, input)
     }
 
-    // The next line; none at the end of the input, and where reading failed, which was told.
+    // The next line; none at the end of the input, and where reading failed, which was told. Each step above says that the buffer keeps its length. Here no
+    // clause can: the line given borrows it, and a `Rests` clause on it, tried, got no proof.
     pub fn next_line(
         &mut self,
         rt: &impl Eprint,

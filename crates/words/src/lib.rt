@@ -72,6 +72,7 @@ fn leading_printed(s: &[u8]) -> usize
 }
 
 // The first byte from `at` on that is not blank; the line's length where there is none.
+// The line's end and no Option for none, here and in the two below: `word` promises the place that it gives (`by_index`), which a `split` does not tell.
 fn skip_blanks(line: &[u8], at: usize) -> usize
     requires { at ≤ length line.now }
     ensures { (result ≡ at + leading (λ b. not (blank b)) (drop at line.now)) × (result ≤ length line.now) }
@@ -131,6 +132,7 @@ pub fn word(line: &[u8], n: usize) -> &[u8]
     &line[start..end]
 }
 
+// A function and no From: docs/ARCHITECTURE.md names it.
 pub fn form_of(line: &[u8]) -> Form
     ensures { formed result (words line.now) ≡ words_say (words line.now) }
 {

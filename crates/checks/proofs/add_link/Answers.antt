@@ -8,4 +8,4 @@ pub returns : goal.returns
 unfolding marked
 returns c =
     let a = c.args in
-    c.mark-2.ensures ∙ ap (λ (R : List ℕ). with_neighbour R a.high a.low) c.mark.ensures
+    c.mark-2.ensures ∙ ap (λ (R : List ℕ). with_neighbour R a.link.high a.link.low) c.mark.ensures

@@ -3,14 +3,14 @@ use Rattle.percolation.specs.Steps.{good_parts}
 use Rattle.sets.proofs.Tests.{no_and}
 use Rattle.checks.proofs.good_parts.Goals as goal
 
-pub returns-then-high-p : goal.returns-then-high-p
+pub returns-then-link-p-2 : goal.returns-then-link-p-2
 unfolding good_parts
-returns-then-high-p c = simp (lt-ltb _ _ c.if-low-p.true, lt-ltb _ _ c.if-high-p.true)
+returns-then-link-p-2 c = simp (lt-ltb _ _ c.if-link-p.true, lt-ltb _ _ c.if-link-p-2.true)
 
-pub returns-else-high-p : goal.returns-else-high-p
+pub returns-else-link-p-2 : goal.returns-else-link-p-2
 unfolding good_parts
-returns-else-high-p c = simp (le-ltb _ _ c.if-high-p.false, no_and)
+returns-else-link-p-2 c = simp (le-ltb _ _ c.if-link-p-2.false, no_and)
 
-pub returns-else-low-p : goal.returns-else-low-p
+pub returns-else-link-p : goal.returns-else-link-p
 unfolding good_parts
-returns-else-low-p c = simp (le-ltb _ _ c.if-low-p.false)
+returns-else-link-p c = simp (le-ltb _ _ c.if-link-p.false)

@@ -1,16 +1,13 @@
 use mathlib.Core.Path.{◌≡◌}
-use Prim.Native.Nat.{◌≤◌}
-use lib.ListN.{length, take, drop}
-use Rattle.slots.specs.Tables.{room}
-use Rattle.slots.specs.Lent.{tables_of, SameLent}
-use Rattle.runs.specs.Model.{rows_with, took_links}
+use lib.ListN.{drop}
+use Rattle.slots.specs.List.{slots_of, SameSlots}
+use Rattle.runs.specs.Model.{took_links}
 use Rattle.journal.specs.Model.{readable}
 use Rattle.journal.proofs.replay.Given as goal
 
--- The invariant: with the entries from next on these are the rows and the tables of all. Assumes nothing.
+-- The invariant: with the entries from next on these are the tables of all. Assumes nothing.
 abbrev pub invariant-loop-next : goal.invariant-loop-next
 invariant-loop-next l =
-    SameLent l.initial.tables l.tables × (l.used ≤ room l.tables.entries.now) × (length l.rows ≡ length l.initial.rows)
-    × (rows_with l.rows (readable l.p (drop l.next-index (take l.n l.journal))) ≡ rows_with l.initial.rows (readable l.p (take l.n l.journal)))
-    × (took_links l.k l.rows (tables_of l.tables l.used) (readable l.p (drop l.next-index (take l.n l.journal)))
-    ≡ took_links l.k l.initial.rows (tables_of l.initial.tables 0) (readable l.p (take l.n l.journal)))
+    SameSlots l.initial.slots l.slots
+    × (took_links l.k l.rows (slots_of l.slots) (readable l.p (drop l.next-index l.entries))
+    ≡ took_links l.k l.initial.rows (slots_of l.initial.slots) (readable l.p l.entries))

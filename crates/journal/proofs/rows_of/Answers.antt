@@ -1,7 +1,7 @@
 use mathlib.Core.Path.{ap, ◌∙◌}
 use mathlib.Core.List.{List}
 use Prim.Native.Nat.{ℕ}
-use lib.ListN.{length, take}
+use lib.ListN.{length}
 use Rattle.runs.specs.Model.{rows_with}
 use Rattle.journal.specs.Model.{readable}
 use Rattle.journal.proofs.Replayed.{rows_next, rows_end}
@@ -10,7 +10,7 @@ use Rattle.journal.proofs.rows_of.Goals as goal
 pub loop-e-init : goal.loop-e-init
 loop-e-init c =
     let a = c.args in
-    (ap (λ (R : List ℕ). rows_with R (readable a.p (take a.n a.journal.now))) c.no_rows-rows.ensures, ap length c.no_rows-rows.ensures)
+    (ap (λ (R : List ℕ). rows_with R (readable a.p a.entries.now)) c.no_rows-rows.ensures, ap length c.no_rows-rows.ensures)
 
 pub loop-e-preserved : goal.loop-e-preserved
 loop-e-preserved c =

@@ -1,5 +1,5 @@
 use mathlib.Core.Path.{◌≡◌}
-use lib.ListN.{length, take, drop}
+use lib.ListN.{length, drop}
 use Rattle.sets.specs.Value.{no_rows}
 use Rattle.runs.specs.Model.{rows_with}
 use Rattle.journal.specs.Model.{readable}
@@ -8,5 +8,5 @@ use Rattle.journal.proofs.rows_of.Given as goal
 -- The invariant: with the entries from e on these are the rows of all. Assumes nothing.
 abbrev pub invariant-loop-e : goal.invariant-loop-e
 invariant-loop-e l =
-    (rows_with l.rows (readable l.p (drop l.e-index (take l.n l.journal))) ≡ rows_with no_rows (readable l.p (take l.n l.journal)))
+    (rows_with l.rows (readable l.p (drop l.e-index l.entries)) ≡ rows_with no_rows (readable l.p l.entries))
     × (length l.rows ≡ length no_rows)

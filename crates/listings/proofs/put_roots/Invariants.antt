@@ -1,7 +1,10 @@
-use Prim.Native.Nat.{◌≤◌}
+use Rattle.std.proofs.Common.{length}
+use Rattle.listings.specs.Model.{root_slots}
 use Rattle.listings.proofs.Filling.{Filled}
 use Rattle.listings.proofs.put_roots.Given as goal
 
--- The invariant: the output holds the listing of the n ends among the slots below i. Assumes nothing.
-abbrev pub invariant-loop-i : goal.invariant-loop-i
-invariant-loop-i l = (l.n ≤ l.i) × Filled l.tables.entries.now l.tables.smallest.now l.tables.unions.now l.initial.out l.i l.n l.out
+-- The invariant: the output holds the listing of the ends so far. Assumes nothing.
+abbrev pub invariant-loop-n : goal.invariant-loop-n
+invariant-loop-n l =
+    let T = l.tables in
+    Filled T.smallest.now T.unions.now (root_slots T.entries.now l.used) l.initial.out (length l.yielded) l.out

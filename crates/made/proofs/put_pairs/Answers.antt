@@ -1,4 +1,4 @@
-use mathlib.Core.Path.{◌≡◌, ap}
+use mathlib.Core.Path.{◌≡◌, ap, ap₂, ◌∙◌}
 use Prim.Native.Nat.{ℕ, ◌+◌, ◌*◌, ◌/◌, ◌%◌}
 use native.Mathlib.Omega.{arith}
 use mathlib.Core.List.{List}
@@ -33,7 +33,8 @@ loop-i-preserved c =
           let is : is_pair c.args.p (pair_at l.i) ≡ true = cc in
           let k = w.put_pair-m in
           let stand = turn_pair f c.args.p t l.i l.m k.result (link_lists_of l.links) (link_lists_of k.new.links) _ room c.loop-i-test.true is
-          (same_link c.args.table.now l.i) l.invariant.1 k.ensures.put in
+          (ap₂ (λ (q h : ℕ). link q h (get_or c.args.table.now l.i 0)) w.ends-low.ensures.0 w.ends-low.ensures.1 ∙ same_link c.args.table.now l.i)
+          l.invariant.1 k.ensures.put in
           rw (w.links-is, w.m-is) (grind (arith, common_steps), stand)
       | else-is_pair w ↦
           let none : is_pair c.args.p (pair_at l.i) ≡ false = cc in

@@ -1,8 +1,6 @@
-use mathlib.Core.Path.{◌≡◌, sym, ap, ◌∙◌}
-use native.Mathlib.Omega.{arith}
+use mathlib.Core.Path.{sym, ap, ◌∙◌}
 use lib.ListN.{length}
 use borrow.Author.Tests.{eq-eqb, ne_eqb}
-use Rattle.sets.proofs.Tables.{length_none}
 use Rattle.mean.proofs.Covering.{covered_none, covered_yes, covered_no}
 use Rattle.mean.proofs.cover.Goals as goal
 use Rattle.mean.proofs.cover.Goals.{then-root-r, else-root-r}

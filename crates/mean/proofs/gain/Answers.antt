@@ -1,4 +1,4 @@
-use mathlib.Core.Path.{sym, ap, ◌∙◌, subst⁻¹}
+use mathlib.Core.Path.{ap, ◌∙◌, subst⁻¹}
 use Prim.Native.Nat.{ℕ}
 use Rattle.sets.specs.Sets.{union}
 use Rattle.sets.specs.Value.{num}

@@ -3,5 +3,5 @@ use Rattle.mean.proofs.is_clique_at.Goals as goal
 
 pub returns : goal.returns
 returns c =
-    clique_told c.args.sheet.now c.requires.0 c.heavy-first.result c.args.t c.heavy-first.ensures.0 _ c.rows_of-rows.ensures _ _ _ _ c.requires.1
+    clique_told c.args.sheet.bytes.now c.args.sheet.passed c.heavy-first.result c.args.t c.heavy-first.ensures.0 _ c.rows_of-rows.ensures _ _ _ _ c.args.sheet.counted.0
     c.is_clique.ensures

@@ -14,24 +14,22 @@ use Rattle.meeting_maximal.proofs.Levels.{first_new, first_kept, first_not, leve
 use Rattle.meeting_maximal.proofs.over_levels.Goals as goal
 use Rattle.meeting_maximal.proofs.over_levels.Goals.{else-is_none-via-then-is_none+else-joined_in, else-is_none-via-else-is_none}
 
-pub take_level-found-requires : goal.take_level-found-requires
-take_level-found-requires c =
+pub take_level-requires : goal.take_level-requires
+take_level-requires c =
     let e = room_within c.args.tables.now.entries.now in
     let r = c.room-room.ensures in
     let l = c.loop-n in (
-      c.requires.0,
-      c.requires.1,
-      omega (arith, c.heavy-end.ensures.1, c.requires.2),
+      c.heavy-end.ensures.1,
       omega (arith, r, e.1),
-      omega (arith, r, e.0, c.requires.4, rows_length l.tables.sets.now c.args.tables.now.sets.now l.invariant.1.sets_length),
+      omega (arith, r, e.0, c.requires.1, rows_length l.tables.sets.now c.args.tables.now.sets.now l.invariant.1.sets_length),
     )
 
-pub returns-then-room-found-clause-run : goal.returns-then-room-found-clause-run
-returns-then-room-found-clause-run c =
+pub returns-in_default-clause-run : goal.returns-in_default-clause-run
+returns-in_default-clause-run c =
     let short =
-    level_short _ c.requires.0 c.loop-n.n _ (omega (arith, c.loop-n-test.true, c.requires.2)) (ap (λ (x : Link). x.weight) c.link-l.ensures.0)
-    c.heavy-end.result (omega (arith, c.heavy-end.ensures.1, c.requires.2)) c.heavy-end.ensures.0 _ _ _ c.room-room.ensures _ _
-    c.take_level-found.ensures c.if-room-found.true in
+    level_short _ c.args.sheet.passed c.loop-n.n _ (omega (arith, c.loop-n-test.true, c.args.sheet.counted.1)) (ap (λ (x : Link). x.weight) c.link-l.ensures.0)
+    c.heavy-end.result c.heavy-end.ensures.1 c.heavy-end.ensures.0 _ _ _ c.room-room.ensures _ _
+    c.in_default.ensures.filled (omega arith) in
     meet_refused _ _ _ (ap (λ (f : Refusal). refused (number_of f.fault) f.place) c.from-full.ensures ∙ sym (last_stop _ 15 0 short))
 
 pub loop-n-smaller-then-joined_in : goal.loop-n-smaller-then-joined_in
@@ -39,8 +37,8 @@ loop-n-smaller-then-joined_in c =
     omega (
       arith,
       c.heavy-end.ensures.1,
-      level_past _ c.requires.0 c.loop-n.n _ (omega (arith, c.loop-n-test.true, c.requires.2)) (ap (λ (x : Link). x.weight) c.link-l.ensures.0)
-          c.heavy-end.result (omega (arith, c.heavy-end.ensures.1, c.requires.2)) c.heavy-end.ensures.0,
+      level_past _ c.args.sheet.passed c.loop-n.n _ (omega (arith, c.loop-n-test.true, c.args.sheet.counted.1)) (ap (λ (x : Link). x.weight) c.link-l.ensures.0)
+          c.heavy-end.result c.heavy-end.ensures.1 c.heavy-end.ensures.0,
     )
 
 pub loop-n-preserved-then-joined_in : goal.loop-n-preserved-then-joined_in
@@ -49,9 +47,9 @@ loop-n-preserved-then-joined_in c =
     let i = c.is_none.ensures ∙ ap not c.if-is_none.true in (
       c.heavy-end.ensures.1,
       search rules,
-      level_next _ q.0 c.loop-n.n _ (omega (arith, c.loop-n-test.true, q.2)) (ap (λ (x : Link). x.weight) c.link-l.ensures.0) c.heavy-end.result
-          (omega (arith, c.heavy-end.ensures.1, q.2)) c.heavy-end.ensures.0 _ _ _ c.room-room.ensures _ _ c.take_level-found.ensures
-          c.if-room-found.false _ _ (omega (arith, q.3)) q.5 q.6 _ _
+      level_next _ c.args.sheet.passed c.loop-n.n _ (omega (arith, c.loop-n-test.true, c.args.sheet.counted.1)) (ap (λ (x : Link). x.weight) c.link-l.ensures.0) c.heavy-end.result
+          c.heavy-end.ensures.1 c.heavy-end.ensures.0 _ _ _ c.room-room.ensures _ _ c.in-Some.ensures.filled
+          c.in-Some.ensures.fits _ _ (omega (arith, q.0)) q.2 q.3 _ _
           (λ K p st one sa sb. first_new _ _ _ i (sym (c.joined_in.ensures K p st one sa sb) ∙ c.if-joined_in.true)) c.loop-n.invariant.2,
     )
 
@@ -60,16 +58,16 @@ loop-n-smaller c =
     omega (
       arith,
       c.heavy-end.ensures.1,
-      level_past _ c.requires.0 c.loop-n.n _ (omega (arith, c.loop-n-test.true, c.requires.2)) (ap (λ (x : Link). x.weight) c.link-l.ensures.0)
-          c.heavy-end.result (omega (arith, c.heavy-end.ensures.1, c.requires.2)) c.heavy-end.ensures.0,
+      level_past _ c.args.sheet.passed c.loop-n.n _ (omega (arith, c.loop-n-test.true, c.args.sheet.counted.1)) (ap (λ (x : Link). x.weight) c.link-l.ensures.0)
+          c.heavy-end.result c.heavy-end.ensures.1 c.heavy-end.ensures.0,
     )
 
 pub loop-n-preserved : goal.loop-n-preserved
 loop-n-preserved c =
     let q = c.requires in
-    let next = level_next _ q.0 c.loop-n.n _ (omega (arith, c.loop-n-test.true, q.2)) (ap (λ (x : Link). x.weight) c.link-l.ensures.0) c.heavy-end.result
-    (omega (arith, c.heavy-end.ensures.1, q.2)) c.heavy-end.ensures.0 _ _ _ c.room-room.ensures _ _ c.take_level-found.ensures
-    c.if-room-found.false _ _ (omega (arith, q.3)) q.5 q.6 c.loop-n.met c.loop-n.met in (
+    let next = level_next _ c.args.sheet.passed c.loop-n.n _ (omega (arith, c.loop-n-test.true, c.args.sheet.counted.1)) (ap (λ (x : Link). x.weight) c.link-l.ensures.0) c.heavy-end.result
+    c.heavy-end.ensures.1 c.heavy-end.ensures.0 _ _ _ c.room-room.ensures _ _ c.in-Some.ensures.filled
+    c.in-Some.ensures.fits _ _ (omega (arith, q.0)) q.2 q.3 c.loop-n.met c.loop-n.met in (
       c.heavy-end.ensures.1,
       elim c.else-is_none.branch [ else-is_none-via-then-is_none+else-joined_in w ↦ search rules | else-is_none-via-else-is_none w ↦ search rules ],
       elim c.else-is_none.branch [
@@ -82,4 +80,4 @@ loop-n-preserved c =
 
 pub returns-clause-run : goal.returns-clause-run
 returns-clause-run c =
-    levels_told _ _ _ _ _ _ c.room-room.ensures c.loop-n.n (omega (arith, c.loop-n-test.false, c.loop-n.invariant.0, c.requires.2)) _ c.loop-n.invariant.2
+    levels_told _ _ _ _ _ _ c.room-room.ensures c.loop-n.n (omega (arith, c.loop-n-test.false, c.loop-n.invariant.0, c.args.sheet.counted.1)) _ c.loop-n.invariant.2

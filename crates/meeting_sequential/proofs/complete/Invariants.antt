@@ -4,4 +4,4 @@ use Rattle.meeting_sequential.proofs.complete.Given as goal
 
 -- The invariant: no link from j on has both ends in s. Assumes nothing.
 abbrev pub invariant-loop-j : goal.invariant-loop-j
-invariant-loop-j l = Later l.sheet (num l.s) l.j
+invariant-loop-j l = Later l.sheet.bytes.now (num l.s) l.j

@@ -1,49 +1,51 @@
-use mathlib.Core.Path.{refl, ap, ◌∙◌}
+use mathlib.Core.Path.{refl}
 use native.Mathlib.Omega.{arith}
-use Rattle.std.proofs.Common.{rules}
-use Rattle.sets.specs.Sets.{out, lowest}
-use Rattle.sets.specs.Value.{num}
-use Rattle.slots.specs.Model.{find}
-use Rattle.slots.specs.Tables.{Tables}
-use Prim.Native.Nat.{ℕ}
-use Rattle.meeting_sequential.proofs.Turns.{turn_begin, turn_met, turn_never, turn_more}
+use Rattle.slots.proofs.Places.{same_slots, slots_both}
+use Rattle.runs.proofs.FoundSlot.{found_some, found_at}
+use Rattle.meeting_sequential.proofs.Turns.{turn_begin, both_found, turn_met, turn_never, turn_more}
 use Rattle.meeting_sequential.proofs.meet_after.Goals as goal
 
-pub loop-m-init : goal.loop-m-init
-loop-m-init c =
+pub unwrap-i-requires : goal.unwrap-i-requires
+unwrap-i-requires c = found_some _ _ _ _ c.slot_of.ensures (both_found _ c.args.sheet.passed _ c.requires.0 _ _ _ _ _ c.requires.1).0
+
+pub unwrap-j-requires : goal.unwrap-j-requires
+unwrap-j-requires c = found_some _ _ _ _ c.slot_of-2.ensures (both_found _ c.args.sheet.passed _ c.requires.0 _ _ _ _ _ c.requires.1).1
+
+pub loop-n-init : goal.loop-n-init
+loop-n-init c =
+    let q = c.requires in (
+      same_slots _,
+      turn_begin _ c.args.sheet.passed _ q.0 _ _ _ _ _ q.1 _ _ (found_at _ _ _ _ c.slot_of.ensures _ c.unwrap-i.ensures)
+          (found_at _ _ _ _ c.slot_of-2.ensures _ c.unwrap-j.ensures),
+    )
+
+pub returns-then-joined-clause-value : goal.returns-then-joined-clause-value
+returns-then-joined-clause-value c =
+    turn_met _ c.args.sheet.passed _ c.requires.0 _ _ _ _ _ _ _ c.loop-n.invariant.1 _ c.joined.ensures c.if-joined.true _ _ refl c.link.ensures.0
+
+pub take_links-requires : goal.take_links-requires
+take_links-requires c = (omega arith, omega (arith, c.loop-n-test.true, c.args.sheet.counted.1), c.requires.0)
+
+pub loop-n-preserved : goal.loop-n-preserved
+loop-n-preserved c =
     let a = c.args in
-    let q = c.requires in
-    let at = λ (x : ℕ). ap (λ (T : Tables). find T.sets a.filled (out (lowest x) x)) (c.view-view.ensures a.filled) in (
-      search rules,
-      refl,
-      turn_begin _ q.0 _ q.2 _ _ _ _ _ q.3 _ _ (c.slot_of-i.ensures ∙ at (num a.a)) (c.slot_of-j.ensures ∙ at (num a.b)),
+    let t = c.loop-n.invariant in
+    let u = c.take_links.ensures in (
+      slots_both t.0 u.same,
+      turn_more _ a.sheet.passed _ c.requires.0 _ _ _ _ _ _ _ t.1 _ c.joined.ensures c.if-joined.false (omega (arith, c.loop-n-test.true, a.sheet.counted.1)) _ _
+          u.rows_after u.slots_after,
     )
 
-pub returns-then-n-m-clause-value : goal.returns-then-n-m-clause-value
-returns-then-n-m-clause-value c =
-    let q = c.requires in
-    turn_never _ q.0 _ q.2 _ _ _ _ _ _ _ c.loop-m.invariant.2 _ c.joined.ensures c.loop-m-test.true (omega (arith, c.if-n-m.true, q.1))
+pub returns-then-joined-2-clause-value : goal.returns-then-joined-2-clause-value
+returns-then-joined-2-clause-value c =
+    let a = c.args in
+    let t = c.loop-n.invariant.1 in
+    turn_met _ a.sheet.passed _ c.requires.0 _ _ _ _ _ _ _ t _ c.joined-2.ensures c.if-joined-2.true _ _
+    (omega (arith, c.loop-n-test.false, t.taken.within, a.sheet.counted.1)) c.link-then-joined-2.ensures.0
 
-pub overflow_add-n : goal.overflow_add-n
-overflow_add-n c = let t = c.loop-m.invariant.2 in omega (arith, t.taken.within, c.if-n-m.false, c.requires.1)
-
-pub take_links-used-requires : goal.take_links-used-requires
-take_links-used-requires c =
-    let t = c.loop-m.invariant.2 in
-    (c.requires.0, omega arith, omega (arith, t.taken.within, c.if-n-m.false, c.requires.1), c.requires.2, t.taken.shows.fits)
-
-pub loop-m-preserved : goal.loop-m-preserved
-loop-m-preserved c =
-    let q = c.requires in
-    let t = c.loop-m.invariant.2 in
-    let u = c.take_links-used in (
-      search rules,
-      u.auto.rows ∙ c.loop-m.invariant.1,
-      turn_more _ q.0 _ q.2 _ _ _ _ _ _ _ t _ c.joined.ensures c.loop-m-test.true (omega (arith, t.taken.within, c.if-n-m.false, q.1)) _ _
-          u.ensures.rows_after.0 u.ensures.tables_after,
-    )
-
-pub returns-clause-value : goal.returns-clause-value
-returns-clause-value c =
-    let q = c.requires in
-    turn_met _ q.0 _ q.2 _ _ _ _ _ _ _ c.loop-m.invariant.2 _ c.joined.ensures c.loop-m-test.false _ _ refl c.link.ensures.0
+pub returns-else-joined-2-clause-value : goal.returns-else-joined-2-clause-value
+returns-else-joined-2-clause-value c =
+    let a = c.args in
+    let t = c.loop-n.invariant.1 in
+    turn_never _ a.sheet.passed _ c.requires.0 _ _ _ _ _ _ _ t _ c.joined-2.ensures c.if-joined-2.false
+    (omega (arith, c.loop-n-test.false, t.taken.within, a.sheet.counted.1))

@@ -1,26 +1,26 @@
-use mathlib.Core.Path.{ap, ◌∙◌}
-use native.Mathlib.Omega.{arith}
-use Rattle.sets.specs.Sets.{size}
-use Rattle.sets.specs.Value.{width}
-use Rattle.sets.proofs.Laws.{size_le}
-use Rattle.sets.proofs.Held.{held}
-use Rattle.page.proofs.Counts.{counted_start, counted_more, counted_end}
+use Rattle.std.proofs.Common.{rules, tests, arith, ◌∙◌}
+use mathlib.Core.Path.{refl}
+use Rattle.std.proofs.lemmas.Iterator.{YieldsList-from_range, YieldsList-from_map}
+use Rattle.std.proofs.lemmas.Iterator.Consumers.{YieldsList-at, sum_by_from_yields_List, fits_by_from_yields_list}
+use Rattle.page.proofs.Counts.{rows_line, rows_few, rows_least, rows_summed, rows_bound}
 use Rattle.page.proofs.row_count.Goals as goal
 
-pub loop-j-init : goal.loop-j-init
-loop-j-init c = counted_start c.args.lines.now c.args.n
-
-pub rows_for-rows-requires : goal.rows_for-rows-requires
-rows_for-rows-requires c = omega (arith, c.count.ensures, size_le width _ (held c.union_of.result c.union_of.type_inv))
-
-pub loop-j-preserved : goal.loop-j-preserved
-loop-j-preserved c =
-    let l = c.loop-j in
-    counted_more c.args.lines.now c.args.n l.rows _ c.count.result l.j l.invariant
-    c.loop-j-test.true (c.count.ensures ∙ ap size c.union_of.ensures) c.rows_for-rows.ensures.0
-    c.rows_for-rows.ensures.1
+pub sum-requires-clause-fits : goal.sum-requires-clause-fits
+sum-requires-clause-fits c =
+    let a = c.args in
+    fits_by_from_yields_list (rows_few a.lines.now) _ c.map.result _
+    (YieldsList-from_map _ (rows_few a.lines.now) (YieldsList-at c.map.ensures.source (YieldsList-from_range 0 a.n a.n refl (omega arith))) c.map.ensures.closure
+    (λ x r q k. search (rules, tests, rows_least)))
+    (omega (arith, rows_bound a.lines.now a.n, c.requires.1))
 
 pub returns : goal.returns
 returns c =
-    counted_end c.args.lines.now c.args.n c.loop-j.rows c.loop-j.j
-    c.loop-j.invariant (omega arith)
+    let a = c.args in
+    let road = YieldsList-at c.map.ensures.source (YieldsList-from_range 0 a.n a.n refl (omega arith)) in
+    let e =
+    sum_by_from_yields_List (rows_line a.lines.now) _ c.map.result _ c.sum.ensures.ran
+    (YieldsList-from_map _ (rows_line a.lines.now) road c.map.ensures.closure (λ x r q k. search (rules, tests))) in
+    let f =
+    sum_by_from_yields_List (rows_few a.lines.now) _ c.map.result _ c.sum.ensures.ran
+    (YieldsList-from_map _ (rows_few a.lines.now) road c.map.ensures.closure (λ x r q k. search (rules, tests, rows_least))) in
+    (e ∙ rows_summed a.lines.now a.n, omega (arith, f, rows_bound a.lines.now a.n))

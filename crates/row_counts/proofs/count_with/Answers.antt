@@ -1,4 +1,4 @@
-use mathlib.Core.Path.{refl, sym, ap, ◌∙◌, subst⁻¹}
+use mathlib.Core.Path.{refl, ap, ◌∙◌, subst⁻¹}
 use Prim.Native.Nat.{ℕ}
 use Rattle.sets.specs.Rest.{left_of}
 use Rattle.sets.specs.Value.{num}

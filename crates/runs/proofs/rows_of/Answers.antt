@@ -11,16 +11,16 @@ use Rattle.runs.proofs.rows_of.Goals as goal
 
 pub loop-j-init : goal.loop-j-init
 loop-j-init c =
-    let s = c.args.sheet.now in
+    let s = c.args.sheet.bytes.now in
     (ap (λ (R : List ℕ). rows_with R (take c.args.n (links_of s))) c.no_rows-rows.ensures, ap length c.no_rows-rows.ensures)
 
 pub loop-j-preserved : goal.loop-j-preserved
 loop-j-preserved c =
     let a = c.args in
     let l = c.loop-j in (
-      rows_next _ _ _ (sheet_given a.sheet.now) a.n c.requires.1 l.rows _ l.j _ c.loop-j-test.true c.link-l.ensures.0 c.add_link.ensures ∙ l.invariant.0,
+      rows_next _ _ _ (sheet_given a.sheet.bytes.now) a.n c.requires l.rows _ l.j _ c.loop-j-test.true c.link-l.ensures.0 c.add_link.ensures ∙ l.invariant.0,
       c.add_link.auto.rows ∙ l.invariant.1,
     )
 
 pub returns : goal.returns
-returns c = rows_end _ _ _ (sheet_given _) _ c.requires.1 _ c.loop-j.j (omega arith) ∙ c.loop-j.invariant.0
+returns c = rows_end _ _ _ (sheet_given _) _ c.requires _ c.loop-j.j (omega arith) ∙ c.loop-j.invariant.0

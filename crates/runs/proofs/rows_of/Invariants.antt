@@ -8,5 +8,5 @@ use Rattle.runs.proofs.rows_of.Given as goal
 -- The invariant: with the links from j on these are the rows of all. Assumes nothing.
 abbrev pub invariant-loop-j : goal.invariant-loop-j
 invariant-loop-j l =
-    (rows_with l.rows (drop l.j (take l.n (links_of l.sheet))) ≡ rows_with no_rows (take l.n (links_of l.sheet)))
+    (rows_with l.rows (drop l.j (take l.n (links_of l.sheet.bytes.now))) ≡ rows_with no_rows (take l.n (links_of l.sheet.bytes.now)))
     × (length l.rows ≡ length no_rows)

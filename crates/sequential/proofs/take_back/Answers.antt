@@ -1,4 +1,5 @@
 use mathlib.Core.Path.{refl, sym, ap, ◌∙◌}
+use lib.Seq.{length-take-le}
 use Rattle.slots.specs.Tables.{Tables}
 use Rattle.slots.specs.Lent.{tables_of}
 use Rattle.states.specs.declared.State.{State}
@@ -14,11 +15,11 @@ returns-in-Err-clause-meets c =
     let t = ap (λ (x : State). tables_of a.tables.now x.used) c.refused.ensures.1 in
     back_refused _ _ _ _ _ _ _ e (faulted _) c.refused.ensures.0 c.refused.ensures.1 t refl
 
-pub last_weight-last-requires : goal.last_weight-last-requires
-last_weight-last-requires c = back_within _ _ _ (sym c.in_default.ensures) _ c.one_less-links.ensures
+pub slice_bounds-before-end : goal.slice_bounds-before-end
+slice_bounds-before-end c = back_within _ _ _ (sym c.in_default.ensures) _ c.one_less-links.ensures
 
-pub rows_of-rows-requires : goal.rows_of-rows-requires
-rows_of-rows-requires c = back_within _ _ _ (sym c.in_default.ensures) _ c.one_less-links.ensures
+pub slice_bounds-before-end-2 : goal.slice_bounds-before-end-2
+slice_bounds-before-end-2 c = sym (length-take-le _ _ (back_within _ _ _ (sym c.in_default.ensures) _ c.one_less-links.ensures))
 
 pub refill-used-requires : goal.refill-used-requires
 refill-used-requires c =
@@ -29,5 +30,5 @@ pub returns-clause-meets : goal.returns-clause-meets
 returns-clause-meets c =
     let a = c.args in
     let z = sym (c.in_default.ensures ∙ ap (λ (T : Tables). back_number a.state T a.journal.now) (c.view.ensures a.state.used)) in
-    back_meets _ _ _ z _ _ _ _ _ _ c.one_less-links.ensures c.rows_of-rows.ensures
+    back_meets _ _ _ z _ _ _ _ _ _ c.one_less-links.ensures c.rows_of-rows.ensures refl
     c.refill-used.ensures.tables_after c.last_weight-last.ensures c.put.ensures refl refl

@@ -1,3 +1,4 @@
+use Rattle.std.proofs.Common.{rules}
 use mathlib.Core.Path.{sym, ap, ◌∙◌}
 use mathlib.Core.Bool.{Bool}
 use native.Mathlib.Omega.{arith}
@@ -6,20 +7,16 @@ use Rattle.answers.specs.Verdict.{unless}
 use Rattle.answers.proofs.Laws.{unless_passed}
 use Rattle.percolation.proofs.Ranges.{good_k_lem}
 use Rattle.slots.specs.Tables.{Tables}
-use Rattle.runs.proofs.Admitted.{call_sheet, call_k}
+use Rattle.runs.proofs.Admitted.{call_k}
 use Rattle.runs.proofs.Calls.{run_refused, run_listing}
 use Rattle.sequential_listing.proofs.Running.{run_lists}
 use Rattle.sequential_listing.proofs.list.Goals as goal
 
 pub has_slots-free-requires : goal.has_slots-free-requires
-has_slots-free-requires c =
-    let q = c.requires in
-    (call_sheet _ _ _ q.0, omega (arith, q.2), q.1, (good_k_lem _ (call_k _ _ _ q.0)).0)
+has_slots-free-requires c = (c.requires.1, (good_k_lem _ (call_k _ _ _ c.requires.0)).0)
 
-pub take_links-used-requires : goal.take_links-used-requires
-take_links-used-requires c =
-    let q = c.requires in
-    (call_sheet _ _ _ q.0, omega arith, q.2, (good_k_lem _ (call_k _ _ _ q.0)).0, omega arith)
+pub take_links-requires : goal.take_links-requires
+take_links-requires c = (omega arith, c.requires.1, (good_k_lem _ (call_k _ _ _ c.requires.0)).0)
 
 pub returns-in_err-require-clause-lists : goal.returns-in_err-require-clause-lists
 returns-in_err-require-clause-lists c =
@@ -34,4 +31,4 @@ returns-clause-lists c =
     let f = sym free ∙ unless_passed _ 15 0 (sym c.in_ok-require.ensures) in
     run_listing _ _ _ a.out.now _ _ f
     (run_lists _ _ _ c.requires.0 a.n f _ _ _ c.no_rows-rows.ensures c.clear.ensures.tables_after
-    (c.view-2.ensures c.take_links-used.result ∙ c.take_links-used.ensures.tables_after)) c.list_roots.ensures
+    (c.view-2.ensures c.take_links.new.slots.used ∙ (search rules) ∙ c.take_links.ensures.slots_after)) c.list_roots.ensures

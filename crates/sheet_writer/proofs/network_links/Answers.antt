@@ -1,4 +1,5 @@
 use mathlib.Core.Path.{◌≡◌, sym, ap, ◌∙◌}
+use Prim.Native.Nat.{◌<◌}
 use native.Mathlib.Omega.{arith}
 use lib.ListN.{length}
 use Rattle.std.specs.Prelude.{Ok, Err}
@@ -20,9 +21,10 @@ loop-j-preserved c =
     let n = network_in c.args.network in
     let r = c.check_link in
     let x = c.link-l.ensures in
+    let small : c.link-l.result.weight < 65536 = omega (arith, c.link-l.type_inv) in
     let ok : r.result ≡ Ok tt = grind arith in (
-      rw c.add_link.ensures
-          (passed_more (link_in n) (λ i. 0) (parts_of n) l.j l.seen l.before (omega arith) l.invariant.0 _ x.0 x.1 r.result r.ensures ok),
+      rw (c.add_link.ensures, c.from-before.ensures)
+          (passed_more (link_in n) (λ i. 0) (parts_of n) l.j l.seen l.before (omega arith) l.invariant.0 _ x small r.result r.ensures ok),
       c.add_link.auto.rows ∙ l.invariant.1,
     )
 
@@ -33,9 +35,10 @@ returns-in_err-check_link c =
     let n = network_in c.args.network in
     let r = c.check_link in
     let x = c.link-l.ensures in
+    let small : c.link-l.result.weight < 65536 = omega (arith, c.link-l.type_inv) in
     let err : (f : Fault) × (r.result ≡ Err f) × (verdict c.from_residual.result ≡ refused (number_of f) 0) = grind arith in
     let stop : in_order (check_link_in n) (length n.lower) ≡ refused (number_of err.0) 0 =
-    passed_stop (link_in n) (λ i. 0) (parts_of n) l.j l.seen l.before (omega arith) l.invariant.0 _ x.0 x.1 r.result r.ensures err.0 err.1 (length n.lower) (omega arith) in
+    passed_stop (link_in n) (λ i. 0) (parts_of n) l.j l.seen l.before (omega arith) l.invariant.0 _ x small r.result r.ensures err.0 err.1 (length n.lower) (omega arith) in
     cc
 
 pub returns : goal.returns

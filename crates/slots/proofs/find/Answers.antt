@@ -13,7 +13,7 @@ loop-slot-init c = rw sub-zero
 pub returns-then-same : goal.returns-then-same
 returns-then-same c =
     let l = c.loop-slot in
-    sym (l.invariant ∙ find_hit _ _ _ l.slot (omega arith) (sym c.at.ensures ∙ eqb-true _ _ (sym c.same.ensures ∙ c.if-same.true)))
+    (sym (l.invariant ∙ find_hit _ _ _ l.slot (omega arith) (sym c.at.ensures ∙ eqb-true _ _ (sym c.same.ensures ∙ c.if-same.true))), omega arith)
 
 pub loop-slot-preserved : goal.loop-slot-preserved
 loop-slot-preserved c =
@@ -21,4 +21,4 @@ loop-slot-preserved c =
     l.invariant ∙ find_miss _ _ _ _ l.slot (omega arith) (λ e. eqb-false _ _ (sym c.same.ensures ∙ c.if-same.false) (c.at.ensures ∙ e))
 
 pub returns : goal.returns
-returns c = sym (c.loop-slot.invariant ∙ find_end _ _ _ _ (omega arith) ∙ omega arith)
+returns c = c.loop-slot.invariant ∙ find_end _ _ _ _ (omega arith) ∙ omega arith

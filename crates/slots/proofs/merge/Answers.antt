@@ -1,5 +1,6 @@
-use Rattle.slots.proofs.Steps.{merged_is}
+use mathlib.Core.Path.{ap, ◌∙◌}
+use Rattle.sets.specs.Value.{num, store}
 use Rattle.slots.proofs.merge.Goals as goal
 
 pub returns : goal.returns
-returns g c = λ f computes. merged_is f _ _ _ _ _ _ _ c.at.ensures c.at-2.ensures (computes _ _ _ c.f-s.ensures) c.put.ensures
+returns g c = λ f computes. c.put.ensures ∙ ap (store _ _) (computes _ _ _ c.f-merged.ensures ∙ ap (λ (n : _). f n (num c.args.s)) c.at.ensures)

@@ -1,3 +1,5 @@
+use mathlib.Core.Bool.{not}
+use mathlib.Core.Path.{ap}
 use Rattle.std.proofs.lemmas.Result.{err_from_is_err_and}
 use Rattle.strong_checks.proofs.Calls.{measure_weakest, measure_stop, measure_past}
 use Rattle.strong_checks.proofs.check_measure.Goals as goal
@@ -11,4 +13,4 @@ returns-in_err-require-in-Product c =
     rw (p.1, p.2) (measure_stop _ _ _ c.in-Product.is _ _ c.in_err-require-in-Product.ensures)
 
 pub returns-in_ok-require-in-Product : goal.returns-in_ok-require-in-Product
-returns-in_ok-require-in-Product c = measure_past _ _ _ c.in-Product.is c.in_ok-require-in-Product.ensures _ _ c.is_number.ensures c.require-in-Product.ensures
+returns-in_ok-require-in-Product c = measure_past _ _ _ c.in-Product.is c.in_ok-require-in-Product.ensures _ _ (ap not c.is_nan.ensures.value) c.require-in-Product.ensures

@@ -1,34 +1,34 @@
-use mathlib.Core.Path.{sym, ap, ◌∙◌}
-use mathlib.Core.Bool.{Bool}
-use borrow.Author.Tests.{leb-true}
-use Rattle.std.proofs.lemmas.Result.{err_from_is_err_and}
-use Rattle.answers.specs.Verdict.{unless}
-use Rattle.answers.proofs.Laws.{unless_passed}
-use Rattle.slots.specs.Tables.{Tables}
-use Rattle.listings.specs.Model.{listed}
+use Rattle.std.proofs.Common.{rules}
+use mathlib.Core.Path.{◌≡◌, sym, ◌∙◌}
+use native.Mathlib.Omega.{arith}
+use Rattle.std.specs.Prelude.{Some, None, Err}
+use Rattle.answers.specs.declared.fault.Fault.TheVariants.{Slots}
+use Rattle.answers.specs.declared.Refusal.{Refusal}
+use Rattle.answers.proofs.Laws.{last_stop}
+use Rattle.slots.specs.List.{slots_of}
 use Rattle.runs.proofs.Calls.{run_refused, run_listing}
-use Rattle.strong_listing.proofs.Families.{family_tells, family_listed}
+use Rattle.strong_listing.proofs.Families.{family_short, family_fits, family_listed, tables_listed}
 use Rattle.strong_listing.proofs.list.Goals as goal
 
-pub returns-in_err-require-clause-lists : goal.returns-in_err-require-clause-lists
-returns-in_err-require-clause-lists c =
-    let r = err_from_is_err_and c.from_residual.result c.from_residual.ensures.1 in
-    let took = c.percolate-used.ensures in
+pub returns-in_err-ok_or-clause-lists : goal.returns-in_err-ok_or-clause-lists
+returns-in_err-ok_or-clause-lists c =
+    let refusal : Refusal = record { fault = Slots; place = 0 } in
+    let none : c.percolate.result ≡ None = grind arith in
+    let err : c.from_residual.result ≡ Err refusal = grind arith in
+    let took = rw none at c.percolate.ensures.fits in
     let zero = c.clear.ensures in
-    λ p k wide two family plenty. rw (r.1, r.2) (run_refused _ _ _ c.args.out.now _
-    (c.in_err-require.ensures
-    ∙ ap (λ (b : Bool). unless b 15 0)
-    (family_tells p k wide two _ family _ c.requires.0 _ plenty _ _ zero.tables_after took.tables_after
-    (took.lent.entries_length ∙ zero.lent.entries_length) _ c.room.ensures)))
+    λ p k wide two family plenty. rw err (run_refused _ _ _ c.args.out.now _ (sym (last_stop _ 15 0
+    (family_short p k wide two _ family _ c.requires.0 _ plenty _ _ zero.tables_after took
+    (c.percolate.ensures.same.lent.entries_length ∙ zero.lent.entries_length) (omega arith)))))
 
 pub returns-clause-lists : goal.returns-clause-lists
 returns-clause-lists c =
-    let took = c.percolate-used.ensures in
+    let some : c.percolate.result ≡ Some tt = grind arith in
+    let took = rw some at c.percolate.ensures.fits in
     let zero = c.clear.ensures in
-    let fit = unless_passed _ 15 0 (sym c.in_ok-require.ensures) in
+    let kept = c.percolate.ensures.same.lent.entries_length ∙ zero.lent.entries_length in
+    let room = c.percolate.new.slots.fits in
     λ p k wide two family plenty. run_listing _ _ _ c.args.out.now _ _
-    (sym (family_tells p k wide two _ family _ c.requires.0 _ plenty _ _ zero.tables_after took.tables_after
-    (took.lent.entries_length ∙ zero.lent.entries_length) _ c.room.ensures) ∙ fit)
-    (ap (λ (T : Tables). listed T.entries T.smallest T.unions c.percolate-used.result) (c.view.ensures 0)
-    ∙ family_listed p k wide two _ family _ c.requires.0 _ plenty _ _ zero.tables_after took.tables_after
-    (took.lent.entries_length ∙ zero.lent.entries_length) _ c.room.ensures (leb-true _ _ fit)) c.list_roots.ensures
+    (family_fits p k wide two _ family _ c.requires.0 _ plenty _ _ zero.tables_after took kept room)
+    (tables_listed {U = slots_of c.percolate.new.slots} (c.view.ensures c.percolate.new.slots.used ∙ (search rules))
+    (family_listed p k wide two _ family _ c.requires.0 _ plenty _ _ zero.tables_after took kept room)) c.list_roots.ensures

@@ -9,9 +9,9 @@ pub returns : goal.returns
 returns c =
     let a = c.args in
     let looked =
-    first_from_Range _ _ _ c.find.result (λ q. holds a.names.now a.name.now q ≡ true) (λ q. holds a.names.now a.name.now q ≡ false) c.find.ensures.ran
+    first_from_Range _ _ _ c.find.result (λ q. holds a.names.bytes.now a.name.now q ≡ true) (λ q. holds a.names.bytes.now a.name.now q ≡ false) c.find.ensures.ran
     (λ q f k. search (rules, tests)) (λ q f k. search (rules, tests)) in
     record {
-      below = looked_below a.names.now a.name.now a.p _ looked;
-      first = looked_first a.names.now a.name.now a.p _ looked;
+      below = looked_below a.names.bytes.now a.name.now a.names.count _ looked;
+      first = looked_first a.names.bytes.now a.name.now a.names.count _ looked;
     }

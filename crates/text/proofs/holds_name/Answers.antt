@@ -9,7 +9,7 @@ use Rattle.text.proofs.holds_name.Goals as goal
 
 pub returns-then-starts_with : goal.returns-then-starts_with
 returns-then-starts_with c =
-    let spaces : c.all_spaces.result ≡ list_all (λ b. b == 32) (drop (length c.args.name.now) c.args.slot.now) = grind (arith, common_steps) in
+    let spaces : c.only_spaces.result ≡ list_all (λ b. b == 32) (drop (length c.args.name.now) c.args.slot.now) = grind (arith, common_steps) in
     slot_then _ _ _ _ c.starts_with.ensures.value c.if-starts_with.true spaces
 
 pub returns-else-starts_with : goal.returns-else-starts_with

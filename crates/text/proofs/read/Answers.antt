@@ -10,7 +10,10 @@ returns-in_err-parts-clause-read c =
     rw (p.1, p.2) (text_stop c.args.text.now c.args.names.now _ _ c.in_err-parts.ensures _ _ _ refl)
 
 pub read_links-requires : goal.read_links-requires
-read_links-requires c = text_room c.args.text.now c.args.names.now _ _ c.in_ok-parts.ensures _ refl c.read_parts.auto.names
+read_links-requires c = (text_room c.args.text.now c.args.names.now _ _ c.in_ok-parts.ensures _ refl c.read_parts.auto.names).1
+
+pub invariant_of-list : goal.invariant_of-list
+invariant_of-list c = record { within = (text_room c.args.text.now c.args.names.now _ _ c.in_ok-parts.ensures _ refl c.read_parts.auto.names).0 }
 
 pub returns-in_err-links-clause-read : goal.returns-in_err-links-clause-read
 returns-in_err-links-clause-read c = let a = c.args in

@@ -14,6 +14,6 @@ invariant-loop-place l = record {
   rows : length l.seen ≡ length no_rows;
   same : SameLinks l.initial.links l.links;
   links :
-      (N : List (List ℕ)) → Held N l.names → length N ≡ l.p
+      (N : List (List ℕ)) → Held N l.names.bytes.now → length N ≡ l.names.count
       → LinksSoFar l.text N (link_lists_of l.initial.links) (link_lists_of l.links) l.seen l.m (rest l.place-iterator);
 }

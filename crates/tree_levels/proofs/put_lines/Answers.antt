@@ -16,10 +16,10 @@ loop-i-preserved c =
     let t = sym c.starts.ensures in
     elim c.if-starts.branch [
       | then-starts w ↦
-          filled_yes v.weight T.entries.now T.smallest.now T.unions.now v.before v.used a.out.now a.n l.i l.m l.out l.invariant _ _ _ _ _ _
+          filled_yes v.weight T.entries.now T.smallest.now T.unions.now v.before a.used a.out.now a.n l.i l.m l.out l.invariant _ _ _ _ _ _
           (t ∙ w.if-starts.true) c.loop-i-test.true w.at.ensures w.at-then-starts.ensures w.joins_at.ensures
           (held w.at.result w.at.type_inv) w.put_line.ensures w.put_line.auto.out w.m-is w.out-is
       | else-starts w ↦
-          filled_no v.weight T.entries.now T.smallest.now T.unions.now v.before v.used a.out.now a.n l.i l.m l.out l.invariant _ _
+          filled_no v.weight T.entries.now T.smallest.now T.unions.now v.before a.used a.out.now a.n l.i l.m l.out l.invariant _ _
           (t ∙ w.if-starts.false) w.m-is w.out-is
     ]

@@ -6,4 +6,4 @@ abbrev pub invariant-loop-i : goal.invariant-loop-i
 invariant-loop-i l =
     let T = l.tables in
     let v = l.level in
-    LinesFilled v.weight T.entries.now T.smallest.now T.unions.now v.before v.used l.initial.out l.n l.i l.m l.out
+    LinesFilled v.weight T.entries.now T.smallest.now T.unions.now v.before l.used l.initial.out l.n l.i l.m l.out

@@ -9,9 +9,9 @@ returns c =
     let a = c.args in
     fields_written a.out.now _ _ _ _ _ a.start _ _ _ _ a.line.weight a.line.joins a.line.into (num a.line.small) (num a.line.whole)
     refl refl refl (ap (λ (n : ℕ). a.start + n) c.whole_place.ensures)
-    c.put_two.ensures
-    c.put_four.ensures
-    c.put_four-2.ensures
+    c.put.ensures
+    c.put-2.ensures
+    c.put-3.ensures
     c.put_bytes.ensures
     c.put_bytes-2.ensures
     c.requires

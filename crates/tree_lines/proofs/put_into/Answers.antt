@@ -9,7 +9,7 @@ returns-in-Some c f u X rest e l =
     let a = c.args in
     let s = c.in-Some.ensures in
     let h = has_line_lem _ _ _ s.0 in
-    into_written f u X rest a.out.now a.n a.m e l _ h.0 h.1 (ap (λ (k : ℕ). k + 6) s.1) a.v _ c.put_four.ensures
+    into_written f u X rest a.lines.now _ a.m e l _ h.0 h.1 (ap (λ (k : ℕ). k + 6) s.1) a.v _ c.put.ensures
 
 pub returns-in_default : goal.returns-in_default
-returns-in_default c f u X rest e l = let a = c.args in into_none f u X rest a.out.now a.n a.m e l a.v c.in_default.ensures
+returns-in_default c f u X rest e l = let a = c.args in into_none f u X rest a.lines.now _ a.m e l a.v c.in_default.ensures

@@ -1,20 +1,16 @@
-use Rattle.tree_passes.proofs.TreePasses.{Counting}
+use Rattle.std.proofs.Common.{◌≡◌, ◌≤◌, ◌*◌, ◌-◌}
 use Rattle.percolation.specs.Ranges.{most_slots}
-use Rattle.slots.specs.Tables.{room}
-use Rattle.slots.specs.Lent.{tables_of, SameLent}
-use Rattle.sheet.specs.Sheet.{parts, links_of}
-use Rattle.sets.specs.Value.{no_rows}
-use lib.ListN.{length}
-use Prim.Native.Nat.{◌*◌, ◌≤◌, ◌-◌}
-use mathlib.Core.Path.{◌≡◌}
+use Rattle.sheet.specs.Sheet.{parts, links, links_of}
+use Rattle.slots.specs.List.{slots_of, SameSlots}
+use Rattle.tree_passes.proofs.TreePasses.{Counting}
 use Rattle.tree_passes.proofs.count_tree.Given as goal
 
--- The invariant: n counts the lines of the levels of the links below `start`. Assumes nothing.
-abbrev pub invariant-loop-start : goal.invariant-loop-start
-invariant-loop-start l =
-    (l.start ≤ l.m) × (l.n ≤ l.start * most_slots) × (l.before ≤ room l.tables.entries.now) × (length l.rows ≡ length no_rows)
-    × SameLent l.initial.tables l.tables
-    × Counting (links_of l.sheet) (parts l.sheet) l.k l.start l.rows (tables_of l.tables l.before) l.n
+-- The invariant: n counts the lines of the levels of the links below the walk's start. Assumes nothing.
+abbrev pub invariant-loop-level : goal.invariant-loop-level
+invariant-loop-level l =
+    let s = l.sheet.bytes.now in
+    (l.walk.start ≤ links s) × (l.n ≤ l.walk.start * most_slots) × (l.walk.sheet ≡ l.sheet) × (l.walk.k ≡ l.k) × SameSlots l.initial.slots l.slots
+    × Counting (links_of s) (parts s) l.k l.walk.start l.walk.rows.now (slots_of l.slots) l.n
 
-abbrev pub decreases-loop-start : goal.decreases-loop-start
-decreases-loop-start l = l.m - l.start
+abbrev pub decreases-loop-level : goal.decreases-loop-level
+decreases-loop-level l = links l.sheet.bytes.now - l.walk.start

@@ -1,73 +1,67 @@
-use Rattle.tree_passes.proofs.SheetPasses.{passes_two, next_level, writing_room, writing_first, writing_bound, writing_last}
-use Rattle.tree_passes.proofs.TreeWritten.{writing_step}
-use Rattle.percolation.specs.Links.{Link}
-use Rattle.runs.proofs.Admitted.{call_sheet}
-use Rattle.slots.proofs.Lengths.{room_within}
-use Rattle.slots.specs.Lent.{tables_of}
-use Rattle.slots.specs.Tables.{room}
-use Rattle.std.proofs.Common.{rules}
-use lib.ListN.{length}
-use Prim.Native.Nat.{ℕ, ◌<◌, ◌≤◌, ◌^◌}
-use mathlib.Core.List.{List}
-use mathlib.Core.Path.{refl, sym, ap, ◌∙◌, subst}
+use mathlib.Core.Path.{refl, ap, ◌∙◌}
+use Prim.Native.Nat.{◌<◌, ◌^◌}
 use native.Mathlib.Omega.{arith}
+use lib.ListN.{length}
+use Rattle.sheet.specs.Sheet.{links}
+use Rattle.sheet.specs.declared.checked_sheet.Checked.{Checked}
+use Rattle.slots.proofs.Lengths.{room_within}
+use Rattle.slots.proofs.Places.{same_slots, slots_both}
+use Rattle.slots.specs.List.{slots_of}
+use Rattle.tree_passes.proofs.SheetPasses.{
+  passes_two,
+  takes_same,
+  kept_same,
+  kept_tables,
+  writing_first,
+  writing_more,
+  writing_bound,
+  writing_last,
+}
 use Rattle.tree_passes.proofs.write_tree.Goals as goal
 
-pub loop-from-init : goal.loop-from-init
-loop-from-init c =
-    let a = c.args in (
-      omega arith,
-      omega arith,
-      ap length c.no_rows-rows.ensures,
-      refl,
-      search rules,
-      writing_first a.sheet.now a.k _ c.requires.0 c.requires.2 a.out.now c.requires.3 _ _ c.no_rows-rows.ensures c.clear.ensures.tables_after,
+pub loop-level-init : goal.loop-level-init
+loop-level-init c = (
+  omega arith,
+  refl,
+  refl,
+  refl,
+  same_slots _,
+  writing_first _ _ _ c.requires.0 c.requires.1 c.args.out.now c.requires.2 _ _ c.no_rows-rows.ensures c.clear.ensures.tables_after,
+)
+
+pub next-requires : goal.next-requires
+next-requires c =
+    let l = c.loop-level in (
+      omega (arith, passes_two _ _ _ c.requires.0 c.requires.1, l.invariant.2),
+      omega (arith, l.invariant.0, ap (λ (x : Checked). links x.bytes.now) l.invariant.1),
     )
 
-pub level_end-to-requires : goal.level_end-to-requires
-level_end-to-requires c = (call_sheet _ _ _ c.requires.0, c.requires.1, c.loop-from-test.true)
+pub write_end-n-requires : goal.write_end-n-requires
+write_end-n-requires c =
+    let l = c.loop-level in
+    let u = c.next.new.slots in
+    let b = writing_bound _ _ _ c.requires.0 c.requires.1 c.args.out.now c.requires.2 l.walk.start l.walk.rows.now (slots_of l.slots) l.n l.out l.invariant.5 in
+    let s : length c.args.out.now < 2 ^ 64 = omega (arith, c.well_formed) in
+    omega (arith, b, s, u.fits, room_within u.tables.now.entries.now)
 
-pub take_links-used-requires : goal.take_links-used-requires
-take_links-used-requires c =
-    let l = c.loop-from in
-    let e = c.level_end-to.ensures in
-    (call_sheet _ _ _ c.requires.0, omega (arith, e.0), omega (arith, e.1, c.requires.1), passes_two _ _ _ c.requires.0 c.requires.2, l.invariant.1)
-
-pub write_level-n-requires : goal.write_level-n-requires
-write_level-n-requires c =
-    let a = c.args in
-    let l = c.loop-from in
-    let t = c.take_links-used in
-    let b = writing_bound a.sheet.now a.k _ c.requires.0 c.requires.2 a.out.now c.requires.3 l.from l.rows _ l.n l.out l.invariant.5 in
-    let s : length a.out.now < 2 ^ 64 = omega (arith, c.well_formed) in
-    omega (arith, b, s, t.ensures.rows_after.1, room_within t.new.tables.entries.now)
-
-pub loop-from-preserved : goal.loop-from-preserved
-loop-from-preserved c =
-    let a = c.args in
-    let s = a.sheet.now in
-    let l = c.loop-from in
-    let e = c.level_end-to.ensures in
-    let t = c.take_links-used in
-    let w = c.write_level-n in
-    let k = w.ensures.kept in
-    let small : length a.out.now < 2 ^ 64 = omega (arith, c.well_formed) in
-    let next = next_level s a.k _ c.requires.0 c.requires.2 l.from _ (omega (arith, e.0, e.1, c.requires.1)) e.2 in
-    let h =
-    writing_step _ _ _ l.from _ _ next a.out.now (writing_room s a.k _ c.requires.0 c.requires.2 a.out.now c.requires.3) small l.rows _ l.n l.out
-    l.invariant.5 (tables_of t.new.tables t.result) _ _ _ _ _ _ t.ensures.tables_after t.ensures.rows_after.0
-    (ap (λ (x : Link). x.weight) c.link-weight.ensures.0) w.ensures.value w.ensures.writes_level in (
-      e.1,
-      subst (λ (x : List ℕ). t.result ≤ room x) (sym k.entries) t.ensures.rows_after.1,
-      t.auto.rows ∙ l.invariant.2,
+pub loop-level-preserved : goal.loop-level-preserved
+loop-level-preserved c =
+    let l = c.loop-level in
+    let w = c.write_end-n in
+    let b = ap (λ (x : Checked). x.bytes.now) l.invariant.1 in
+    let t = takes_same _ _ _ _ _ _ _ _ _ _ _ b l.invariant.2 c.in-Some.ensures.level.0 in
+    let small : length c.args.out.now < 2 ^ 64 = omega (arith, c.well_formed) in (
+      t.few,
+      c.in-Some.ensures.walk.0 ∙ l.invariant.1,
+      c.in-Some.ensures.walk.1 ∙ l.invariant.2,
       w.auto.out ∙ l.invariant.3,
-      search rules,
-      rw (k.sets, k.entries) h,
+      slots_both l.invariant.4 (slots_both c.in-Some.ensures.same (kept_same w.ensures.kept)),
+      writing_more _ _ _ c.requires.0 c.requires.1 c.args.out.now c.requires.2 small _ _ _ _ _ _ _ _ l.n w.result _ l.out _ l.invariant.5 t
+          c.in-Some.ensures.level.1 w.ensures.value (kept_tables w.ensures.kept) w.ensures.writes_level,
     )
 
 pub returns-clause-output : goal.returns-clause-output
 returns-clause-output c =
-    let a = c.args in
-    let l = c.loop-from in
-    writing_last a.sheet.now a.k _ c.requires.0 c.requires.2 a.out.now c.requires.3 l.from l.rows _ l.n l.out
-    (omega (arith, c.loop-from-test.false, c.requires.1)) l.invariant.5
+    let l = c.loop-level in
+    writing_last _ _ _ c.requires.0 c.requires.1 c.args.out.now c.requires.2 l.walk.start l.walk.rows.now (slots_of l.slots) l.n l.out
+    (omega (arith, c.in_default.ensures.level, ap (λ (x : Checked). links x.bytes.now) l.invariant.1)) l.invariant.5

@@ -1,7 +1,0 @@
-use mathlib.Core.Path.{refl}
-use Rattle.journal.specs.Model.{entry_link}
-use Rattle.journal.proofs.LinkFromU64.from.Goals as goal
-
-pub returns : goal.returns
-unfolding entry_link
-returns c = refl
