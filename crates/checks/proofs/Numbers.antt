@@ -9,11 +9,16 @@ use borrow.Author.Tests.{eq-eqb, ne_eqb, lt-ltb, le-ltb}
 use Rattle.answers.specs.Verdict.{Verdict, accepted, refused, ◌then◌, unless}
 use Rattle.sets.specs.Sets.{has}
 use Rattle.sets.specs.Value.{width, row}
-use Rattle.percolation.specs.Links.{Link, linked}
+use Rattle.percolation.specs.Links.{Link, link, linked}
 use Rattle.percolation.specs.Steps.{good_parts, rises, check_link}
 use Rattle.percolation.proofs.Accepted.{good_parts_lem}
 use Rattle.checks.specs.Neighbours.{Neighbours, last_weight}
 use Rattle.checks.specs.Model.{link_number}
+
+-- a part check looks at no weight
+pub parts_alone : (p low high v w : ℕ) → good_parts p (link low high v) ≡ good_parts p (link low high w)
+unfolding good_parts
+parts_alone p low high v w = refl
 
 module _ (p : ℕ) (R : List ℕ) (b : ℕ) (l : Link) where
   pub number_6 : good_parts p l ≡ false → 6 ≡ link_number p R b l

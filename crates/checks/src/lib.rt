@@ -4,7 +4,7 @@
 ghost use Rattle.std.specs.Prelude.{◌≡◌, true, List, ◌≤◌, eqb};
 ghost use Rattle.sets.specs.Lists.{any};
 ghost use Rattle.sets.specs.Value.{width, num};
-ghost use Rattle.percolation.specs.Links.{Link as PlainLink, inside, cliques};
+ghost use Rattle.percolation.specs.Links.{Link as PlainLink, link, inside, cliques};
 ghost use Rattle.percolation.specs.Ranges.{good_count, narrow_count, good_k};
 ghost use Rattle.percolation.specs.Steps.{good_parts, legal};
 ghost use Rattle.checks.specs.Neighbours.{Neighbours};
@@ -65,25 +65,51 @@ pub fn good_parts(p: usize, link: Link) -> bool
     link.low < p && (link.high < p && link.low < link.high)
 }
 
-// The first of 6 to 9 that applies to a link; `before` is the weight of the link before it, the largest weight where there is none.
+// The first of 6 to 9 that applies to a link, of any weight; `before` is the weight of the link before it, the largest weight where there is none.
 // The weight before the first is 65,535 and no Option: so has it the state, which C holds. No `require` here: it is a bare fault, the place is the
-// caller's.
-pub fn check_link(rows: &[u64], p: usize, link: Link, before: usize) -> Result<(), Fault>
-    ensures { fault_number result ≡ link_number p rows.now before (as_link link) }
+// caller's. No `Link`: one has a weight of two bytes.
+pub fn link_number(
+    rows: &[u64],
+    p: usize,
+    low: usize,
+    high: usize,
+    weight: usize,
+    before: usize,
+) -> Result<(), Fault>
+    ensures { fault_number result ≡ link_number p rows.now before (link low high weight) }
 {
-    if !good_parts(p, link) {
+    let ends = Link {
+        low,
+        high,
+        weight: 0,
+    };
+    if !good_parts(p, ends) {
         return Err(Fault::LinkParts);
     }
-    if link.weight == 0 {
+    if weight == 0 {
         return Err(Fault::NoWeight);
     }
-    if before < usize::from(link.weight) {
+    if before < weight {
         return Err(Fault::Rising);
     }
-    if sets::has(sets::at(rows, link.low), link.high) {
+    if sets::has(sets::at(rows, low), high) {
         return Err(Fault::LinkAgain);
     }
     Ok(())
+}
+
+// The same of a link as a sheet or a step has it.
+pub fn check_link(rows: &[u64], p: usize, link: Link, before: usize) -> Result<(), Fault>
+    ensures { fault_number result ≡ link_number p rows.now before (as_link link) }
+{
+    link_number(
+        rows,
+        p,
+        link.low,
+        link.high,
+        usize::from(link.weight),
+        before,
+    )
 }
 
 // b becomes a neighbour of a.

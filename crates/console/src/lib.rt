@@ -11,5 +11,5 @@ mod scan;
 pub use args::{arg, arg_count};
 pub use load::{last_file, read, read_on};
 pub use refusal::{FewSlots, refuse, tell, tell_long};
-pub use say::{Counted, Stopped, end, fail, fail_of};
+pub use say::{Counted, STDERR, STDIN, STDOUT, Stopped, end, fail, fail_of, tell_full};
 pub use scan::find;

@@ -3,8 +3,12 @@
 use std::fmt;
 use std::io::{Error, ErrorKind, Write};
 
-// The number that the system gives to standard error.
-const STDERR: i32 = 2;
+// The numbers that the system gives to a program's three streams.
+pub const STDIN: i32 = 0;
+
+pub const STDOUT: i32 = 1;
+
+pub const STDERR: i32 = 2;
 
 // ---- numbers of things
 
@@ -31,18 +35,20 @@ fn error_text(e: Error, buf: &mut [u8]) -> &str {
     str::from_utf8(&buf[..n]).unwrap_or("failed")
 }
 
-// Why, in the system's words, which an error's text has before the error's number.
+// The system's words, which an error's text has before the error's number.
+fn before_number(text: &str) -> &str {
+    text.split_once(" (os error ")
+        .map_or(text, |(words, _)| words)
+}
+
+// Why, in the system's words.
 #[derive(Clone, Copy)]
 struct Words(Error);
 
 impl fmt::Display for Words {
     fn fmt<W: fmt::Write>(&self, f: &mut fmt::Formatter<W>) -> fmt::Result {
         let mut buf = [0u8; 256];
-        let text = error_text(self.0, &mut buf);
-        f.write_str(
-            text.split_once(" (os error ")
-                .map_or(text, |(words, _)| words),
-        )
+        f.write_str(before_number(error_text(self.0, &mut buf)))
     }
 }
 
@@ -71,6 +77,18 @@ pub fn fail_of(rt: &impl Eprint, before: &str, word: &[u8], behind: &str) -> Sto
     io::write_all(STDERR, word);
     let _ = eprintln!(rt; "{behind}");
     Stopped::Told
+}
+
+// Tells that standard output took no more, in the middle of an answer that goes on: no handle for standard error is at hand there.
+pub fn tell_full(e: Error) {
+    if e.kind() == ErrorKind::BrokenPipe {
+        return;
+    }
+    let mut buf = [0u8; 256];
+    let why = before_number(error_text(e, &mut buf));
+    io::write_all(STDERR, b"standard output: ");
+    io::write_all(STDERR, why.as_bytes());
+    io::write_all(STDERR, b"\n");
 }
 
 // The end of a program: that standard output took no more is told, unless its reader went away, as `head` does.

@@ -1,6 +1,7 @@
 // The families of a listing, of a sheet at a threshold or of the links so far.
 use crate::heads::{FAMILY, Head};
 use crate::names::Names;
+use console::tell_full;
 use sets::Set;
 use std::{fmt, io};
 
@@ -28,15 +29,18 @@ impl<'a> Listing<'a> {
     }
 }
 
-// A line for each family; the parts of all of them.
-fn lines(rt: &impl Print, listing: Listing<'_>) -> io::Result<Set> {
+// A line for each family; the parts of all of them. Where standard output takes no more that is told, and the parts are those of the lines before.
+fn lines(rt: &impl Print, listing: Listing<'_>) -> Set {
     let mut seen = sets::empty();
     for (number, family) in (1..=listing.families.len()).zip(listing.families) {
         let union = sets::from_bytes(family, 8);
-        println!(rt; "family {number}:{}", Names(listing.sheet, union))?;
+        if let Err(e) = println!(rt; "family {number}:{}", Names(listing.sheet, union)) {
+            tell_full(e);
+            return seen;
+        }
         seen = sets::union(seen, union);
     }
-    Ok(seen)
+    seen
 }
 
 // The parts of the sheet that are not among those seen.
@@ -55,6 +59,6 @@ pub fn families(
     by: impl fmt::Display + Drop,
 ) -> io::Result<()> {
     println!(rt; "{}{by}", listing.head())?;
-    let seen = lines(rt, listing)?;
+    let seen = lines(rt, listing);
     others(rt, listing.sheet, seen)
 }

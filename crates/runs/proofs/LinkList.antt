@@ -2,12 +2,11 @@
 use mathlib.Core.Path.{◌≡◌, sym, ap, ap₂, ◌∙◌, subst}
 use mathlib.Core.Bool.{true}
 use mathlib.Core.List.{List, [], ◌∷◌, ◌++◌}
-use Prim.Native.Nat.{ℕ, zero, suc, ◌+◌, ◌≤◌, ◌<◌}
+use Prim.Native.Nat.{ℕ, ◌+◌, ◌≤◌, ◌<◌}
 use native.Mathlib.Omega.{arith}
 use native.Mathlib.Numerals.{add-one}
 use lib.ListN.{length, get_or, take, drop, drop_of_length-le}
 use lib.Seq.{take-suc, drop-cons, get_or-take, length-take-le}
-use Rattle.std.specs.Prelude.{Option, Some, None, MatchOption, unwrap_or}
 use Rattle.sets.specs.Lists.{◌∈◌}
 use Rattle.sets.proofs.ListLaws.{get_d_member}
 use Rattle.percolation.specs.Links.{Link, link, heavy}
@@ -20,7 +19,7 @@ use Rattle.slots.specs.Tables.{Tables}
 use Rattle.search.specs.Model.{new_cliques}
 use Rattle.clique_taking.specs.Model.{took_all}
 use Rattle.runs.specs.Model.{rows_with, took_links}
-use Rattle.runs.proofs.Falling.{AllHeavy, none_heavy, heavy_more, take_stop, take_every}
+use Rattle.runs.proofs.Falling.{AllHeavy, heavy_more, take_stop, take_every}
 
 -- L has m links, of which number j is f j
 pub record Given (L : List Link) (f : ℕ → Link) (m : ℕ) : Type 0 where
@@ -89,13 +88,6 @@ module _ (L : List Link) (f : ℕ → Link) (m : ℕ) (g : Given L f m) where
   pub weighs_more : (t j : ℕ) → j < m → AllHeavy t (take j L) → t ≤ (f j).weight → AllHeavy t (take (j + 1) L)
   weighs_more t j h a w = rw (first_more j h) (heavy_more t (take j L) (f j) a w)
 
-  -- none below j weighs less
-  pub weighs_each : (t j : ℕ) → j ≤ m → ((i : ℕ) → 0 ≤ i → i < j → t ≤ (f i).weight) → AllHeavy t (take j L)
-  weighs_each t zero h a = none_heavy t
-  weighs_each t (suc i) h a =
-      subst (λ (n : ℕ). AllHeavy t (take n L)) (add-one i)
-      (weighs_more t i (omega arith) (weighs_each t i (omega arith) (λ q z l. a q z (omega arith))) (a i (omega arith) (omega arith)))
-
   -- ---- links that pass 6 to 9
 
   module _ (p : ℕ) (ok : legal p L ≡ true) where
@@ -108,12 +100,3 @@ module _ (L : List Link) (f : ℕ → Link) (m : ℕ) (g : Given L f m) where
 
     pub weighs_all : (t j : ℕ) → j ≡ m → AllHeavy t (take j L) → take j L ≡ heavy t L
     weighs_all t j h a = take_every p t L ok j (h ∙ sym g.count) a
-
-    -- looking for the first that weighs less, among z
-    pub weighs_found : (t z : ℕ) → z ≡ m → (r : Option ℕ) → MatchOption r ((i : ℕ) → 0 ≤ i → i < z → t ≤ (f i).weight)
-        (λ j. (0 ≤ j) × (j < z) × ((f j).weight < t) × ((i : ℕ) → 0 ≤ i → i < j → t ≤ (f i).weight)) → (n : ℕ) → n ≡ unwrap_or r z
-        → (take n L ≡ heavy t L) × (n ≤ m)
-    weighs_found t z same None none n e =
-        (weighs_all t n (e ∙ same) (weighs_each t n (omega (arith, e, same)) (λ i h l. none i h (omega (arith, e)))), omega (arith, e, same))
-    weighs_found t z same (Some j) w n e =
-        (rw e (weighs_less t j (omega (arith, w.1, same)) (weighs_each t j (omega (arith, w.1, same)) w.3) w.2), omega (arith, e, w.1, same))

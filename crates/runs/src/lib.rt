@@ -66,7 +66,13 @@ pub fn heavy(sheet: Checked, t: u16) -> usize
     ensures { (take result (links_of sheet.entry.bytes.now) ≡ heavy t (links_of sheet.entry.bytes.now)) × (result ≤ links sheet.entry.bytes.now) }
 {
     let m = sheet.counts.links;
-    (0..m).find(|j| sheet.link(*j).weight < t).unwrap_or(m)
+    // By a loop: with `find` and a closure a tree of many levels takes up to half more.
+    for j in 0..m {
+        if sheet.link(j).weight < t {
+            return j;
+        }
+    }
+    m
 }
 
 // The rows of neighbours of the first n links of a checked sheet. For sister crates: `heavy` and the link count show what is required.

@@ -3,12 +3,13 @@
 // The four lent tables of the sequential run: slots found, placed and joined.
 ghost use Rattle.std.specs.Prelude.{◌≡◌, length, ℕ, ◌+◌, ◌<◌, ◌^◌};
 ghost use Rattle.sets.specs.declared.Set.{Set};
+ghost use Rattle.sets.specs.Sets.{out, lowest};
 ghost use Rattle.sets.specs.Value.{num, row, store, number_at};
 ghost use Rattle.percolation.specs.Ranges.{most_slots};
 ghost use Rattle.slots.specs.Tables.{room};
 ghost use Rattle.slots.specs.Lent.{tables_of, tables_in, SameLent};
 ghost use Rattle.slots.specs.List.{Finds};
-ghost use Rattle.slots.specs.Model.{joined, appended};
+ghost use Rattle.slots.specs.Model.{joined, appended, placed};
 
 mod list;
 
@@ -55,7 +56,7 @@ impl Lent<'_> {
 }
 
 // The used slot that holds s. Slots stand in the order in which they came: nothing to search by halves.
-fn find(sets: &[u64], used: usize, s: Set) -> Option<usize>
+pub fn find(sets: &[u64], used: usize, s: Set) -> Option<usize>
     ensures { Finds result sets.now used (num s) }
 {
     for slot in 0..used {
@@ -64,6 +65,13 @@ fn find(sets: &[u64], used: usize, s: Set) -> Option<usize>
         }
     }
     None
+}
+
+// The slot of s less its lowest part.
+pub fn slot_of(sets: &[u64], used: usize, s: Set) -> Option<usize>
+    ensures { Finds result sets.now used (out (lowest (num s)) (num s)) }
+{
+    find(sets, used, sets::without(s, sets::lowest(s)))
 }
 
 // Row r becomes f of itself and s.
@@ -107,6 +115,23 @@ fn append(tables: &mut Lent, i: usize, s: Set, q: Set)
     tables.entries[i] = i as u32;
     sets::put(tables.smallest, i, q);
     sets::put(tables.unions, i, q);
+}
+
+// A slot for s, a part of the clique q, where `held` is what find says of s: the one that holds it, else a new one, of a class of its own, where there is
+// room. Gives how many slots are used then. For sister crates: the slot of s is looked for first.
+pub fn place(tables: &mut Lent, used: usize, held: Option<usize>, s: Set, q: Set) -> usize
+    requires { Finds held tables.old.sets.now used (num s) }
+    ensures lent { SameLent tables.old tables.new }
+    ensures tables_after { tables_of tables.new result ≡ placed (tables_of tables.old used) (num s) (num q) }
+{
+    if let Some(_) = held {
+        return used;
+    }
+    if tables.room() <= used {
+        return used;
+    }
+    append(tables, used, s, q);
+    used + 1
 }
 
 // However long the tables are, no more slots are used.

@@ -39,7 +39,8 @@ impl SlotList<'_, '_> {
     pub fn slot_of(&self, s: Set) -> Option<usize>
         ensures { Finds result self.now.tables.now.sets.now self.now.used (out (lowest (num s)) (num s)) }
     {
-        self.find(sets::without(s, sets::lowest(s)))
+        let tables = &*self.tables;
+        crate::slot_of(tables.sets, self.used, s)
     }
 
     // A slot for s, a part of the clique q: the one that holds it, else a new one, of a class of its own; none where no slot is free for it.

@@ -141,7 +141,8 @@ fn row(
 ) -> io::Result<State> {
     let before = trial::copied(0, tables.view());
     let Stepped { answer, state } = step.run(state, tables, journal);
-    let as_before = trial::same(&before, &trial::copied(0, tables.view()));
+    // Only of a refused step is it told.
+    let as_before = answer.is_err() && trial::same(&before, &trial::copied(0, tables.view()));
     println!(rt;
         "{}",
         Became {

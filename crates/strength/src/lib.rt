@@ -35,7 +35,8 @@ fn run(
     )?;
     let mut table = [0u16; 4096];
     weights::fill(sheet, &mut table);
-    clique_list::score_cliques(&table, list, n);
+    let (cliques, products) = (&mut *list.cliques, &mut *list.products);
+    clique_list::score_cliques(&table, cliques, n, products);
     let sure = strong_checks::is_sure(sheet, k, measure, tables.view().entries);
     strong_listing::list(measure, &table, list.view(), n, sure, tables, out)
 }

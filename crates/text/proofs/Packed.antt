@@ -35,7 +35,6 @@ use Rattle.text.specs.Reading.{is_name, padded, name_bytes, check_part, more_par
 use Rattle.text.proofs.Names.{bytes_length, bytes_at_lem, held_name, padded_once}
 use Rattle.text.proofs.Pass1.{more_named}
 use Rattle.text.proofs.LinkLaws.{linked_ends}
-use Rattle.text.proofs.Whole.{counts_of}
 
 -- ---- names
 
@@ -249,7 +248,7 @@ front l old L f m e h = ap (take m) e ∙ take_at (map f L) (drop (length L) old
 
 -- the first 8 * p bytes of the names and the first m entries of the lists are a network that the writer accepts
 module _ (text names names2 : List ℕ) (t t2 : LinkLists) (r : Result Counts Refusal) (p m : ℕ)
-    (meets : TextMeets text names t r names2 t2) (fine : r ≡ Ok (counts_of p m)) where
+    (meets : TextMeets text names t r names2 t2) (fine : r ≡ Ok (record { parts = p; links = m })) where
   told : (check_text text (length names) t ≡ accepted) × (p ≡ length (parts_of text)) × (m ≡ length (text_links text))
   told = said_fine _ text p m (ap sheet_says (sym fine) ∙ meets.answer)
 

@@ -6,11 +6,9 @@ use native.Mathlib.Omega.{arith}
 use lib.ListN.{length, take, drop, length-append}
 use lib.Seq.{take_at, drop_at}
 use Rattle.percolation.specs.Tree.{Line, tree_bytes}
-use Rattle.slots.specs.declared.Lent.{Lent}
-use Rattle.slots.specs.Tables.{Tables}
-use Rattle.slots.specs.Lent.{tables_of}
 use Rattle.tree_levels.specs.declared.Level.{Level}
-use Rattle.tree_levels.specs.Kept.{KeepsSlots, with_unions}
+use Rattle.tree_levels.specs.declared.Ends.{Ends}
+use Rattle.tree_levels.specs.Kept.{KeepsEnds}
 use Rattle.tree_lines.specs.LineModel.{line_length, line_count, lines_with, holding}
 use Rattle.tree_levels.specs.LevelModel.{join_counts, start_slots, wiped, Numbering, numbers_of, went_into, grew_to, WentTo, GrewTo, FilledTo, NumbersTo}
 use Rattle.tree_levels.specs.LevelModel.{WritesLevel}
@@ -93,25 +91,23 @@ module _ (b used w n : ℕ) (es ms us old cs out1 ms2 us2 in2 in3 in4 us3 : List
   pub level_written : WritesLevel b used w n es ms (join_counts es us b) old ms2 us3 (in4 ++ drop end out1)
   level_written = subst (λ (x : List ℕ). WritesLevel b used w n es ms x old ms2 us3 (in4 ++ drop end out1)) counted written
 
--- with the tables as the code has them: counted in C, numbered in N, wiped in W
-pub level_wrote : (v : Level) (used n m end : ℕ) (T C N W : Lent) (old out1 in2 in3 in4 : List ℕ)
-    → tables_of C 0 ≡ with_unions (tables_of T 0) (join_counts T.entries.now T.unions.now v.before)
+-- with the tables as the code has them: T, counted in C, numbered in N, wiped in W, which leaves ms4 and us4
+pub level_wrote : (v : Level) (used n m end : ℕ) (T C N W : Ends) (old out1 in2 in3 in4 ms4 us4 : List ℕ)
+    → KeepsEnds T C → C.smallest.now ≡ T.smallest.now → C.unions.now ≡ join_counts T.entries.now T.unions.now v.before
     → m ≡ n + length (start_slots C.entries.now C.unions.now v.before used)
     → FilledTo v.weight C.entries.now C.smallest.now C.unions.now v.before used old n used out1
-    → end ≡ min (min (m * line_length) (2 ^ 64 - 1)) (length out1) → length out1 < 2 ^ 64 → KeepsSlots C N
-    → NumbersTo v.before n (line_count (take end out1) - n) C.smallest.now C.unions.now (take end out1) (line_count (take end out1)) N.smallest.now N.unions.now in2
+    → end ≡ min (min (m * line_length) (2 ^ 64 - 1)) (length out1) → length out1 < 2 ^ 64 → KeepsEnds C N
+    → NumbersTo v.before n (line_count (take end out1) - n) C.smallest.now C.unions.now (take end out1) (line_count (take end out1))
+    N.smallest.now N.unions.now in2
     → length in2 ≡ length (take end out1)
     → WentTo N.entries.now N.smallest.now N.unions.now in2 (line_count in2) v.before in3 → length in3 ≡ length in2
     → GrewTo N.entries.now N.smallest.now N.unions.now in3 (line_count in3) used in4
-    → tables_of W 0 ≡ with_unions (tables_of N 0) (wiped N.entries.now N.unions.now used)
-    → WritesLevel v.before used v.weight n T.entries.now T.smallest.now (join_counts T.entries.now T.unions.now v.before) old W.smallest.now W.unions.now
-    (in4 ++ drop end out1)
-level_wrote v used n m end T C N W old out1 in2 in3 in4 counted total put first narrow kept numbers l2 went l3 grew wipes =
-    let ce : C.entries.now ≡ T.entries.now = ap (λ (x : Tables). x.entries) counted in
-    let cs : C.smallest.now ≡ T.smallest.now = ap (λ (x : Tables). x.smallest) counted in
+    → W.smallest.now ≡ N.smallest.now → W.unions.now ≡ wiped N.entries.now N.unions.now used → ms4 ≡ W.smallest.now → us4 ≡ W.unions.now
+    → WritesLevel v.before used v.weight n T.entries.now T.smallest.now (join_counts T.entries.now T.unions.now v.before) old ms4 us4 (in4 ++ drop end out1)
+level_wrote v used n m end T C N W old out1 in2 in3 in4 ms4 us4 same cs counted total put first narrow kept numbers l2 went l3 grew ws wipes left_s left_u =
+    let ce : C.entries.now ≡ T.entries.now = same.entries in
     let ne : N.entries.now ≡ T.entries.now = kept.entries ∙ ce in
-    let ws : W.smallest.now ≡ N.smallest.now = ap (λ (x : Tables). x.smallest) wipes in
-    rw ws
+    rw (left_s, left_u, ws)
     (level_written v.before used v.weight n T.entries.now T.smallest.now T.unions.now old C.unions.now out1 N.smallest.now N.unions.now in2 in3 in4
-    W.unions.now m end (ap (λ (x : Tables). x.unions) counted) (rw ce at total) (rw (ce, cs) at put) first narrow (rw cs at numbers) l2 (rw ne at went) l3
-    (rw ne at grew) (rw ne at (ap (λ (x : Tables). x.unions) wipes)))
+    W.unions.now m end counted (rw ce at total) (rw (ce, cs) at put) first narrow (rw cs at numbers) l2 (rw ne at went) l3
+    (rw ne at grew) (rw ne at wipes))

@@ -4,14 +4,13 @@
 // what each line grew to.
 //
 // Each step takes how many slots it goes through: those before the level, or all. It goes by their numbers, since a slot's number tells what stands at it
-// in four tables, and the tables are written meanwhile. They are read as `&Lent`, as whoever calls holds them: a View would be made anew for each slot.
+// in three tables, and the tables are written meanwhile. They are read as `&Ends`, as a level holds them: a struct to read would be made anew for each slot.
 // A number in a free row is a u64 and that of a line or a slot a usize, between which no From stands: hence `as`.
 ghost use Rattle.std.specs.Prelude.{◌≡◌, cond, ◌&&◌, suc, ◌+◌, ◌-◌, ◌^◌, ◌<◌, ◌≤◌, eqb, ltb, length};
 ghost use Rattle.sets.specs.Value.{store, number_at};
 ghost use Rattle.slots.specs.Tables.{root_of};
-ghost use Rattle.slots.specs.Lent.{tables_of};
 ghost use Rattle.tree_lines.specs.LineModel.{line_count, changed, Redirects};
-ghost use Rattle.tree_levels.specs.Kept.{KeepsSlots, counted, starting, with_unions};
+ghost use Rattle.tree_levels.specs.Kept.{KeepsEnds};
 ghost use Rattle.tree_levels.specs.LevelModel.{
   absorbed,
   more_joins,
@@ -28,7 +27,6 @@ ghost use Rattle.tree_levels.specs.LevelModel.{
   WritesLevel,
 };
 
-use slots::Lent;
 use tree_lines::Line;
 
 // A level: the weight of its links, and how many slots were used before them.
@@ -38,15 +36,23 @@ pub struct Level {
     pub before: usize,
 }
 
+// What the end of a level takes of the lent tables: a joining entry, only to be read, a smallest clique and a union for each slot.
+#[derive(Drop)]
+struct Ends<'a> {
+    entries: &'a [u32],
+    smallest: &'a mut [u64],
+    unions: &'a mut [u64],
+}
+
 // The slot where the class of slot i ends.
-fn end(tables: &Lent, i: usize) -> usize
+fn end(tables: &Ends, i: usize) -> usize
     ensures { (result ≡ root_of tables.now.entries.now i) × (result ≤ i) }
 {
     joining::root(tables.entries, i)
 }
 
 // Whether a class ends at slot i.
-fn is_end(tables: &Lent, i: usize) -> bool
+fn is_end(tables: &Ends, i: usize) -> bool
     ensures { result ≡ eqb (root_of tables.now.entries.now i) i }
 {
     joining::is_root(tables.entries, i)
@@ -54,7 +60,7 @@ fn is_end(tables: &Lent, i: usize) -> bool
 
 // Whether slot i ended a class at the end of the level before and ends none now.
 #[tactic(auto, unfolding(crate::specs::LevelModel::absorbed))]
-fn absorbed(tables: &Lent, i: usize) -> bool
+fn absorbed(tables: &Ends, i: usize) -> bool
     ensures { result ≡ absorbed tables.now.entries.now tables.now.unions.now i }
 {
     !is_end(tables, i) && !sets::is_empty(sets::at(tables.unions, i))
@@ -85,10 +91,10 @@ fn count_join(unions: &mut [u64], r: usize)
 
 // For each class that two or more of the level before went into, at the slot after its end: how many lines it joins. `used` slots were used before.
 #[tactic(auto, unfolding(crate::specs::LevelModel::swept))]
-fn count_joins(tables: &mut Lent, used: usize)
-    ensures kept { KeepsSlots tables.old tables.new }
-    ensures tables_after { tables_of tables.new 0
-        ≡ with_unions (tables_of tables.old 0) (join_counts tables.old.entries.now tables.old.unions.now used) }
+fn count_joins(tables: &mut Ends, used: usize)
+    ensures kept { KeepsEnds tables.old tables.new }
+    ensures smallest_after { tables.new.smallest.now ≡ tables.old.smallest.now }
+    ensures unions_after { tables.new.unions.now ≡ join_counts tables.old.entries.now tables.old.unions.now used }
 {
     for i in 0..used {
         if absorbed(tables, i) {
@@ -112,14 +118,14 @@ fn joins_at(unions: &[u64], before: usize, r: usize) -> usize
 
 // Whether a class ends at r and starts a line: it holds no class of the level before, or two or more.
 #[tactic(auto, unfolding(crate::specs::LevelModel::starts_at))]
-fn starts(tables: &Lent, before: usize, r: usize) -> bool
+fn starts(tables: &Ends, before: usize, r: usize) -> bool
     ensures { result ≡ eqb (root_of tables.now.entries.now r) r && starts_at tables.now.unions.now before r }
 {
     is_end(tables, r) && (before <= r || slots::note_at(tables.unions, r + 1) != 0)
 }
 
 // How many lines start.
-fn count_lines(tables: &Lent, before: usize, used: usize) -> usize
+fn count_lines(tables: &Ends, before: usize, used: usize) -> usize
     ensures { (result ≡ length (start_slots tables.now.entries.now tables.now.unions.now before used)) × (result ≤ used) }
 {
     (0..used).filter(|i| starts(tables, before, *i)).count()
@@ -127,10 +133,10 @@ fn count_lines(tables: &Lent, before: usize, used: usize) -> usize
 
 // Empties the row of each used slot that is no end.
 #[tactic(auto, unfolding(crate::specs::LevelModel::swept))]
-fn wipe(tables: &mut Lent, used: usize)
-    ensures kept { KeepsSlots tables.old tables.new }
-    ensures tables_after { tables_of tables.new 0
-        ≡ with_unions (tables_of tables.old 0) (wiped tables.old.entries.now tables.old.unions.now used) }
+fn wipe(tables: &mut Ends, used: usize)
+    ensures kept { KeepsEnds tables.old tables.new }
+    ensures smallest_after { tables.new.smallest.now ≡ tables.old.smallest.now }
+    ensures unions_after { tables.new.unions.now ≡ wiped tables.old.entries.now tables.old.unions.now used }
 {
     for i in 0..used {
         if !is_end(tables, i) {
@@ -141,7 +147,7 @@ fn wipe(tables: &mut Lent, used: usize)
 
 // Puts the lines that start behind the first n, by smallest clique, each with the slot where its class ends in place of the line that it goes into. Gives
 // how many there are then. The output and n are no struct: a level needs the number of lines before it and that after it.
-fn put_lines(tables: &Lent, level: Level, used: usize, out: &mut [u8], n: usize) -> usize
+fn put_lines(tables: &Ends, level: Level, used: usize, out: &mut [u8], n: usize) -> usize
     requires { n + used < 2 ^ 64 }
     ensures value { result ≡ n + length (start_slots tables.now.entries.now tables.now.unions.now level.before used) }
     ensures filled_to { FilledTo level.weight tables.now.entries.now tables.now.smallest.now tables.now.unions.now level.before used
@@ -165,7 +171,7 @@ fn put_lines(tables: &Lent, level: Level, used: usize, out: &mut [u8], n: usize)
 }
 
 // The line that the class of slot r had goes into line m, where r was used before.
-fn end_line(tables: &Lent, before: usize, lines: &mut [u8], r: usize, m: usize)
+fn end_line(tables: &Ends, before: usize, lines: &mut [u8], r: usize, m: usize)
     ensures { Redirects (λ f. cond (ltb r before) (changed f (number_at tables.now.smallest.now (suc r)) m) f) lines.old (line_count lines.old) lines.new }
 {
     if r < before {
@@ -175,9 +181,9 @@ fn end_line(tables: &Lent, before: usize, lines: &mut [u8], r: usize, m: usize)
 }
 
 // Line m starts at the slot that stands in place of the line that it goes into: its number goes to the slot after that.
-fn number_line(tables: &mut Lent, before: usize, lines: &mut [u8], m: usize)
+fn number_line(tables: &mut Ends, before: usize, lines: &mut [u8], m: usize)
     requires { (1 ≤ m) × (m ≤ line_count lines.old) }
-    ensures kept { KeepsSlots tables.old tables.new }
+    ensures kept { KeepsEnds tables.old tables.new }
     ensures numbers { NumbersOne before m tables.old.smallest.now tables.old.unions.now lines.old (line_count lines.old)
         tables.new.smallest.now tables.new.unions.now lines.new }
 {
@@ -191,8 +197,8 @@ fn number_line(tables: &mut Lent, before: usize, lines: &mut [u8], m: usize)
 
 // The lines behind the first `from` get their numbers.
 #[tactic(auto, unfolding(crate::specs::LevelModel::numbered))]
-fn number_lines(tables: &mut Lent, before: usize, lines: &mut [u8], from: usize)
-    ensures kept { KeepsSlots tables.old tables.new }
+fn number_lines(tables: &mut Ends, before: usize, lines: &mut [u8], from: usize)
+    ensures kept { KeepsEnds tables.old tables.new }
     ensures numbers { NumbersTo before from (line_count lines.old - from) tables.old.smallest.now tables.old.unions.now lines.old (line_count lines.old)
         tables.new.smallest.now tables.new.unions.now lines.new }
 {
@@ -203,7 +209,7 @@ fn number_lines(tables: &mut Lent, before: usize, lines: &mut [u8], from: usize)
 
 // The line of each absorbed class, of `used` slots, goes into the line of the class where it ends now.
 #[tactic(auto, unfolding(crate::specs::LevelModel::went_into))]
-fn join_lines(tables: &Lent, used: usize, lines: &mut [u8])
+fn join_lines(tables: &Ends, used: usize, lines: &mut [u8])
     ensures { WentTo tables.now.entries.now tables.now.smallest.now tables.now.unions.now lines.old (line_count lines.old) used lines.new }
 {
     for i in 0..used {
@@ -218,7 +224,7 @@ fn join_lines(tables: &Lent, used: usize, lines: &mut [u8])
 
 // Each class that ends below `used` shows its union in its line. The line of a class that was absorbed keeps what the level before showed.
 #[tactic(auto, unfolding(crate::specs::LevelModel::grew_to))]
-fn show_growth(tables: &Lent, used: usize, lines: &mut [u8])
+fn show_growth(tables: &Ends, used: usize, lines: &mut [u8])
     ensures { GrewTo tables.now.entries.now tables.now.smallest.now tables.now.unions.now lines.old (line_count lines.old) used lines.new }
 {
     for r in 0..used {
@@ -230,13 +236,16 @@ fn show_growth(tables: &Lent, used: usize, lines: &mut [u8])
     }
 }
 
-// A level of the first pass, after its links: how many lines start, where `before` slots were used before them.
-pub fn count_level(tables: &mut Lent, before: usize, used: usize) -> usize
-    ensures kept { KeepsSlots tables.old tables.new }
-    ensures value { (result ≡ length (starting (tables_of tables.old used) before)) × (result ≤ used) }
-    ensures tables_after { tables_of tables.new used ≡ with_unions (tables_of tables.old used)
-        (wiped tables.old.entries.now (counted (tables_of tables.old used) before) used) }
+// A level of the first pass, after its links: how many lines start, where `before` slots were used before them. It reads no smallest clique.
+pub fn count_level(entries: &[u32], unions: &mut [u64], before: usize, used: usize) -> usize
+    ensures value { (result ≡ length (start_slots entries.now (join_counts entries.now unions.old before) before used)) × (result ≤ used) }
+    ensures unions_after { unions.new ≡ wiped entries.now (join_counts entries.now unions.old before) used }
 {
+    let tables = &mut Ends {
+        entries,
+        smallest: &mut [],
+        unions,
+    };
     count_joins(tables, before);
     let n = count_lines(tables, before, used);
     wipe(tables, used);
@@ -245,13 +254,25 @@ pub fn count_level(tables: &mut Lent, before: usize, used: usize) -> usize
 
 // A level of the second pass, after its links: its lines behind the first n, with their numbers, the lines that they join go into them, and each line
 // that goes on shows its union. Gives how many lines there are then. For sister crates: the slots of a table are few.
-pub fn write_level(tables: &mut Lent, level: Level, used: usize, out: &mut [u8], n: usize) -> usize
+pub fn write_level(
+    entries: &[u32],
+    smallest: &mut [u64],
+    unions: &mut [u64],
+    level: Level,
+    used: usize,
+    out: &mut [u8],
+    n: usize,
+) -> usize
     requires { n + used < 2 ^ 64 }
-    ensures kept { KeepsSlots tables.old tables.new }
-    ensures value { result ≡ n + length (starting (tables_of tables.old used) level.before) }
-    ensures writes_level { WritesLevel level.before used level.weight n tables.old.entries.now tables.old.smallest.now
-        (counted (tables_of tables.old used) level.before) out.old tables.new.smallest.now tables.new.unions.now out.new }
+    ensures value { result ≡ n + length (start_slots entries.now (join_counts entries.now unions.old level.before) level.before used) }
+    ensures writes_level { WritesLevel level.before used level.weight n entries.now smallest.old (join_counts entries.now unions.old level.before)
+        out.old smallest.new unions.new out.new }
 {
+    let tables = &mut Ends {
+        entries,
+        smallest,
+        unions,
+    };
     count_joins(tables, level.before);
     let m = put_lines(tables, level, used, out, n);
     let end = m.saturating_mul(tree_lines::line_length()).min(out.len());

@@ -69,7 +69,9 @@ fn count_end(slots: &mut SlotList, before: usize) -> usize
         (wiped (slots_of slots.old).entries (counted (slots_of slots.old) before) slots.old.used) }
 {
     let used = slots.used;
-    tree_levels::count_level(slots.tables, before, used)
+    let tables = &mut *slots.tables;
+    let (entries, unions) = (&mut *tables.entries, &mut *tables.unions);
+    tree_levels::count_level(entries, unions, before, used)
 }
 
 fn write_end(slots: &mut SlotList, level: Level, out: &mut [u8], n: usize) -> usize
@@ -80,7 +82,13 @@ fn write_end(slots: &mut SlotList, level: Level, out: &mut [u8], n: usize) -> us
         (counted (slots_of slots.old) level.before) out.old (slots_of slots.new).smallest (slots_of slots.new).unions out.new }
 {
     let used = slots.used;
-    tree_levels::write_level(slots.tables, level, used, out, n)
+    let tables = &mut *slots.tables;
+    let (entries, smallest, unions) = (
+        &mut *tables.entries,
+        &mut *tables.smallest,
+        &mut *tables.unions,
+    );
+    tree_levels::write_level(entries, smallest, unions, level, used, out, n)
 }
 
 // How many lines the tree of an admitted sheet has, in tables that it leaves anyhow. For sister crates: that the slots suffice is what 15 shows.

@@ -1,8 +1,7 @@
 // Standard input.
 ghost use Rattle.std.specs.Prelude.{◌≤◌, length};
 
-// The number that the system gives to it.
-const STDIN: i32 = 0;
+use console::STDIN;
 
 // Reads as far as buf has room: how many bytes came. By the crate io and not by std's reader, since of an input that fails nothing was ever told and what came
 // before is taken.

@@ -15,7 +15,7 @@ use Rattle.sets.specs.Lists.{all, keep}
 use Rattle.sets.proofs.Tests.{split, lt_or_le, and_intro, and_left, and_right}
 use Rattle.sets.proofs.ListLaws.{keep_yes, keep_no, keep_of, all_of, get_d_member}
 use Rattle.words.specs.Lines.{pieces, on_first, blank, some_bytes, words, leading, WordAt}
-use Rattle.words.proofs.Pieces.{leading_counted, leading_yes, leading_no, leading_le, leading_at, pieces_last, pieces_more, pieces_on, pieces_parts, line_end_fits}
+use Rattle.words.proofs.Pieces.{leading_counted, leading_yes, leading_no, leading_le, leading_at, pieces_last, pieces_more, pieces_on, pieces_parts, line_end_fits, line_end_tested}
 
 abbrev pub printed : ℕ → Bool
 printed b = not (blank b)
@@ -60,6 +60,11 @@ scan_printed l i n h e =
     e ∙ ap (prefix_len (λ b. not (blank b))) (behind l (i + 1)) ∙ leading_counted blank (λ b. not (blank b)) (drop (i + 1) l) (λ b. refl)
     ∙ ap (λ (k : ℕ). leading blank (drop k l)) (add-one i) in
     (omega (arith, d), omega (arith, d, leading_le blank (drop (suc i) l), length-drop (suc i) l))
+
+pub scan_line : (l : List ℕ) (i n : ℕ) → n ≡ prefix_len (λ b. not (eqb b 10)) (take (length l - i) (drop i l)) → i + n ≡ i + leading (eqb 10) (drop i l)
+scan_line l i n e =
+    ap (λ (k : ℕ). i + k)
+    (e ∙ ap (prefix_len (λ b. not (eqb b 10))) (behind l i) ∙ leading_counted (eqb 10) (λ b. not (eqb b 10)) (drop i l) line_end_tested)
 
 -- ---- a line from its first byte
 

@@ -34,18 +34,22 @@ pub fn line_of(text: &[u8], place: usize) -> usize
     count_line_ends(&text[..place.min(text.len())]) + 1
 }
 
-// How many bytes of the line are to come at `at`.
-fn to_line_end(text: &[u8], at: usize) -> usize
-    ensures { (result ≡ prefix_len (λ b. not (b == 10)) (drop at text.now)) × (result ≤ length (drop at text.now)) }
+// How many bytes stand before the first that ends a line.
+fn before_line_end(s: &[u8]) -> usize
+    ensures { (result ≡ prefix_len (λ b. not (b == 10)) s.now) × (result ≤ length s.now) }
 {
-    text.iter().skip(at).take_while(|b| **b != b'\n').count()
+    s.iter().take_while(|b| **b != b'\n').count()
 }
 
 // Where the line that starts at `at` ends: at a byte 10, or at the end of the text.
+// The rest as a slice: `skip` would go through all bytes before it.
 pub fn line_end(text: &[u8], at: usize) -> usize
     ensures { result ≡ at + leading (eqb 10) (drop at text.now) }
 {
-    at + to_line_end(text, at)
+    if text.len() <= at {
+        return at;
+    }
+    at + before_line_end(&text[at..])
 }
 
 // ---- words

@@ -50,7 +50,7 @@ list-requires c =
     let some : c.store_cliques.result ≡ Some c.in_ok-n.n = grind arith in
     let fit = rw some at c.store_cliques.ensures.fits in (
       level_tables _ _ (strength_level _ _ _ _ c.requires),
-      omega (arith, fit, ap length v.1, x.list.products_length),
+      omega (arith, fit, ap length v.1, x.length_kept),
       scores_seen _ _ _ _ _ _ v.0 v.1 x.scores,
     )
 
@@ -66,4 +66,4 @@ returns-clause-runs c =
     (c.is_sure-sure.ensures
     ∙ ap (λ (T : Tables). enough (length T.entries) (slots (parts a.sheet.bytes.now) a.k (cliques (bearing a.measure (links_of a.sheet.bytes.now)) (parts a.sheet.bytes.now) a.k)))
     (c.view.ensures 0))
-    (family_seen _ _ _ _ _ _ _ _ _ _ (c.view-2.ensures.0 ∙ c.score_cliques.ensures.cliques_kept) c.list.ensures.lists)
+    (family_seen _ _ _ _ _ _ _ _ _ _ c.view-2.ensures.0 c.list.ensures.lists)

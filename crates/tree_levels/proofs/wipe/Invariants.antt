@@ -1,6 +1,5 @@
 use Rattle.std.proofs.Common.{◌≡◌}
-use Rattle.slots.specs.Lent.{tables_of}
-use Rattle.tree_levels.specs.Kept.{KeepsSlots, with_unions}
+use Rattle.tree_levels.specs.Kept.{KeepsEnds}
 use Rattle.tree_levels.specs.LevelModel.{wiped}
 use Rattle.tree_levels.proofs.wipe.Given as goal
 
@@ -8,4 +7,4 @@ use Rattle.tree_levels.proofs.wipe.Given as goal
 abbrev pub invariant-loop-i : goal.invariant-loop-i
 invariant-loop-i l =
     let T = l.initial.tables in
-    KeepsSlots T l.tables × (tables_of l.tables 0 ≡ with_unions (tables_of T 0) (wiped T.entries.now T.unions.now l.i))
+    KeepsEnds T l.tables × (l.tables.smallest.now ≡ T.smallest.now) × (l.tables.unions.now ≡ wiped T.entries.now T.unions.now l.i)

@@ -1,8 +1,13 @@
-use mathlib.Core.Path.{ap, ◌∙◌}
-use Prim.Native.Nat.{ℕ, ◌+◌}
+use native.Mathlib.Omega.{arith}
 use lib.Dec.{eqb}
-use Rattle.words.proofs.Pieces.{leading_counted, line_end_tested}
+use Rattle.std.proofs.lemmas.List.{at_drop_all}
+use Rattle.words.specs.Lines.{leading}
+use Rattle.words.proofs.WordLaws.{scan_line}
 use Rattle.words.proofs.line_end.Goals as goal
 
+pub returns-then-text-at : goal.returns-then-text-at
+unfolding leading
+returns-then-text-at c = omega (arith, at_drop_all (leading (eqb 10)) c.args.text.now c.args.at (omega arith))
+
 pub returns : goal.returns
-returns c = ap (λ (n : ℕ). c.args.at + n) (c.to_line_end.ensures.0 ∙ leading_counted (eqb 10) _ _ line_end_tested)
+returns c = scan_line _ _ _ c.before_line_end.ensures.0

@@ -1,5 +1,5 @@
 use Rattle.slots.proofs.Peel.{peeled}
-use Rattle.slots.proofs.list.SlotList.slot_of.Goals as goal
+use Rattle.slots.proofs.slot_of.Goals as goal
 
 pub returns : goal.returns
 returns c = rw (← peeled _ _ _ c.lowest.ensures c.without.ensures) c.find.ensures
